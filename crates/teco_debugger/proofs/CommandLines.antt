@@ -8,7 +8,7 @@ use Rattle.teco_cli.specs.Parsing.{IsUnparsed}
 use Rattle.teco_cli.specs.declared.fault.LineFault.{LineFault}
 use Rattle.teco_cli.specs.declared.fault.LineFault.TheVariants.{NoMemory, Refused}
 use Rattle.teco_debugger.specs.CommandLine.{IsLimit, LineHas, WordsSay, WordsSayNone, debug_app}
-use Rattle.teco_debugger.specs.declared.line.Line.{Line}
+use Rattle.teco_debugger.specs.declared.line.DebuggerLine.{DebuggerLine}
 
 -- the command is one whose matches the parser's contract says, and no argument has a rule on another
 debug_is_simple : is_simple debug_app ≡ true
@@ -33,7 +33,7 @@ no_line words NoMemory h = tt
 no_line words (Refused refusal) h = h
 
 -- memory was refused
-pub refused_is : (words : List Text) (r : Result Line LineFault) → IfErr r (λ fault. fault ≡ NoMemory) → IfErr r (WordsSayNone words)
+pub refused_is : (words : List Text) (r : Result DebuggerLine LineFault) → IfErr r (λ fault. fault ≡ NoMemory) → IfErr r (WordsSayNone words)
 refused_is words (Ok line) h = tt
 refused_is words (Err fault) h = subst (WordsSayNone words) (sym h) tt
 
@@ -52,6 +52,6 @@ module _ (app : App) (is : app ≡ debug_app) where
     words_taken : fault_of debug_app words ≡ []
     words_taken = ap (λ a. fault_of a words) (sym is) ∙ fault (ap is_simple_and_free is ∙ debug_is_free)
 
-    pub line_is : (r : Result Line LineFault) → IfOk r (LineHas (rows_of (found_of m))) → IfOk r (WordsSay words)
+    pub line_is : (r : Result DebuggerLine LineFault) → IfOk r (LineHas (rows_of (found_of m))) → IfOk r (WordsSay words)
     line_is (Ok line) has = record { taken = words_taken; given = rw (← rows_are) has }
     line_is (Err fault) has = tt

@@ -4,9 +4,9 @@ use Rattle.teco_fs.specs.Disk.{Files}
 use Rattle.teco_debugger.specs.Walk.{KeptWalk}
 use Rattle.teco_debugger.specs.Reading.{BeginsOver, IsInputOf, IsTextOf}
 use Rattle.teco_debugger.specs.declared.debugger.Debugger.{Debugger}
-use Rattle.teco_debugger.specs.declared.line.Line.{Line}
+use Rattle.teco_debugger.specs.declared.line.DebuggerLine.{DebuggerLine}
 
-pub begins_over : (files mid : Option Files) (line : Line) (debugger : Debugger) (walk : KeptWalk) (text input : List ℕ) → mid ≡ files
+pub begins_over : (files mid : Option Files) (line : DebuggerLine) (debugger : Debugger) (walk : KeptWalk) (text input : List ℕ) → mid ≡ files
     → IsTextOf files line text → IsInputOf mid line.input input → walk.text ≡ text → walk.input ≡ input → walk.steps ≡ 0
     → debugger.walk ≡ walk → debugger.limit ≡ line.limit → debugger.moves.items ≡ [] → debugger.stop ≡ None → BeginsOver files line debugger
 begins_over files mid line debugger walk text input same t i walk_text walk_input walk_steps is limit moves stop = record {

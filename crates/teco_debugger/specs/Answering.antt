@@ -6,9 +6,9 @@ use Rattle.teco_messages.specs.declared.spot.Spot.{Spot}
 use Rattle.teco_debugger.specs.Finding.{last_change}
 use Rattle.teco_debugger.specs.Verb.{verb_by, verbs, words_of}
 use Rattle.teco_debugger.specs.Walk.{KeptWalk, meant, state_there}
-use Rattle.teco_debugger.specs.declared.command.Command.{Command}
-use Rattle.teco_debugger.specs.declared.command.Command.TheVariants as command
-use Rattle.teco_debugger.specs.declared.command.Fault.{Fault}
+use Rattle.teco_debugger.specs.declared.command.DebuggerCommand.{DebuggerCommand}
+use Rattle.teco_debugger.specs.declared.command.DebuggerCommand.TheVariants as command
+use Rattle.teco_debugger.specs.declared.command.CommandFault.{CommandFault}
 use Rattle.teco_debugger.specs.declared.verb.Counted.{Counted}
 use Rattle.teco_debugger.specs.declared.verb.Counted.TheVariants.{Next, Back, Goto, Text, Undo}
 use Rattle.teco_debugger.specs.declared.verb.Plain.{Plain}
@@ -103,7 +103,7 @@ AnswersCounted Undo n old new shown = TakesBack (moves_left n old.moves.items)
     (slice_get old.moves.items (moves_left n old.moves.items)) old new shown
 
 -- what a command does, and what is shown of it
-abbrev pub AnswersCommand : Command → Debugger → Debugger → List ℕ → Type 0
+abbrev pub AnswersCommand : DebuggerCommand → Debugger → Debugger → List ℕ → Type 0
 AnswersCommand (command.Plain plain) old new shown = AnswersPlain plain old new shown
 AnswersCommand (command.Counted counted n) old new shown = AnswersCounted counted n old new shown
 AnswersCommand (command.Register q) old new shown =
@@ -118,11 +118,11 @@ pub record TellsNoMemory (old new : Debugger) (shown : List ℕ) : Type 0 where
   pub shown_is : shown ≡ answer_line (codes "no memory; the walk stands at step " ++ decimal new.walk.steps)
 
 -- The answer to a line: that of its command, or why it is none.
-abbrev pub IsAnswerTo : Result Command Fault → Debugger → Debugger → List ℕ → Type 0
+abbrev pub IsAnswerTo : Result DebuggerCommand CommandFault → Debugger → Debugger → List ℕ → Type 0
 IsAnswerTo (Ok command) old new shown = AnswersCommand command old new shown ⊎ TellsNoMemory old new shown
 IsAnswerTo (Err fault) old new shown = OnlyShows (answer_line (words_of fault)) old new shown
 
 -- the line asks to leave
-abbrev pub is_leaving : Result Command Fault → Bool
+abbrev pub is_leaving : Result DebuggerCommand CommandFault → Bool
 is_leaving (Ok (command.Plain Quit)) = true
 is_leaving _ = false

@@ -14,7 +14,7 @@ use Rattle.teco_cli.specs.OptionTable.{flag, with_number, with_rules, with_text}
 use Rattle.teco_cli.specs.Refusals.{IsToldAs}
 use Rattle.teco_cli.specs.declared.fault.LineFault.{LineFault}
 use Rattle.teco_cli.specs.declared.fault.LineFault.TheVariants as line_fault
-use Rattle.teco_debugger.specs.declared.line.Line.{Line}
+use Rattle.teco_debugger.specs.declared.line.DebuggerLine.{DebuggerLine}
 
 -- MACRO: any text, and it has to be there
 abbrev pub macro_rule : Rule
@@ -40,7 +40,7 @@ IsLimit (Some text) limit = IsNumber text → limit ≡ min (number_of text) 100
 IsLimit None limit = limit ≡ 1000000
 
 -- The line has what a parse gives for each argument.
-pub record LineHas (rows : List Row) (line : Line) : Type 0 where
+pub record LineHas (rows : List Row) (line : DebuggerLine) : Type 0 where
   pub limit : IsLimit (one_of (codes "limit") rows) line.limit
   pub input : first_of (codes "input") rows ≡ option_map string_bytes line.input
   pub dollar : IsTrue line.dollar ↔ (one_of (codes "dollar") rows ≡ Some (codes "true"))
@@ -49,7 +49,7 @@ pub record LineHas (rows : List Row) (line : Line) : Type 0 where
 
 -- The line is what these words say, the program's name first: the parser takes them, and the line has what their
 -- parse gives.
-pub record WordsSay (words : List Text) (line : Line) : Type 0 where
+pub record WordsSay (words : List Text) (line : DebuggerLine) : Type 0 where
   pub taken : fault_of debug_app words ≡ []
   pub given : LineHas (matches_of debug_app words) line
 
@@ -66,7 +66,7 @@ WordsSayNone words (line_fault.Refused refusal) =
     (error : ErrorKind) × IsDebugError words error × IsToldAs refusal.refused_as error
 
 -- The words, where they were given, say this line.
-abbrev pub WordsGivenSay : Result (Vec (String Global) Global) LineFault → Line → Type 0
+abbrev pub WordsGivenSay : Result (Vec (String Global) Global) LineFault → DebuggerLine → Type 0
 WordsGivenSay (Ok words) line = WordsSay (map string_bytes words.items) line
 WordsGivenSay (Err fault) line = ⊥
 

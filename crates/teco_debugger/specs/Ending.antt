@@ -8,7 +8,7 @@ use Rattle.teco_fs.specs.Refusing.{Tells}
 use Rattle.teco_io.specs.Terminal.{Screen}
 use Rattle.teco_debugger.specs.declared.ending.Ending.{Ending}
 use Rattle.teco_debugger.specs.declared.ending.Ending.TheVariants.{Done, NoText, NoInput, NoMemory, ReadFault, ShowFault}
-use Rattle.teco_debugger.specs.declared.line.Line.{Line}
+use Rattle.teco_debugger.specs.declared.line.DebuggerLine.{DebuggerLine}
 use Rattle.teco_debugger.specs.declared.reading.FileFault.{FileFault}
 use Rattle.teco_debugger.specs.declared.reading.FileFault.TheVariants as file
 
@@ -33,7 +33,7 @@ input_name (Some name) = string_bytes name
 input_name None = []
 
 -- what is told: a line, or nothing
-abbrev pub ending_line : Line → Ending → List ℕ
+abbrev pub ending_line : DebuggerLine → Ending → List ℕ
 ending_line line Done = []
 ending_line line (NoText fault) = told_line (fault_words (string_bytes line.text) fault)
 ending_line line (NoInput fault) = told_line (fault_words (input_name line.input) fault)
@@ -43,7 +43,7 @@ ending_line line ShowFault = told_line (codes "cannot show")
 
 -- The status is that of the ending, and its line is told on standard error; or that there is no memory for the line,
 -- where there is one.
-pub record TellsEnding (line : Line) (ending : Ending) (old new : Screen) (status : ℕ) : Type 0 where
+pub record TellsEnding (line : DebuggerLine) (ending : Ending) (old new : Screen) (status : ℕ) : Type 0 where
   pub status_is : status ≡ status_of_ending ending
   pub told : Tells old new (ending_line line ending)
       ⊎ ((status_of_ending ending ≡ 1) × Tells old new (told_line (codes "no memory")))

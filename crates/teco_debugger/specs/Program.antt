@@ -13,7 +13,7 @@ use Rattle.teco_debugger.specs.Reading.{BeginsOver, CannotRead}
 use Rattle.teco_debugger.specs.Serving.{ServesLines, stage}
 use Rattle.teco_debugger.specs.declared.debugger.Debugger.{Debugger}
 use Rattle.teco_debugger.specs.declared.ending.Ending.{Ending}
-use Rattle.teco_debugger.specs.declared.line.Line.{Line}
+use Rattle.teco_debugger.specs.declared.line.DebuggerLine.{DebuggerLine}
 
 -- how what a run changes is seen: its disk, its commands and its terminal
 pub record RetraceView (D I S T : Type 0) : Type 1 where
@@ -26,14 +26,14 @@ abbrev pub retrace_view : {D I S T : Type 0} → (D → DiskSeen I) → (S → O
 retrace_view disk coming screen = record { disk = disk; coming = coming; screen = screen }
 
 -- The files are not read, which says how the run ends. No command is read, and nothing is shown.
-pub record HasNoFiles {D I S T : Type 0} (view : RetraceView D I S T) (line : Line) (old new : Host D S T)
+pub record HasNoFiles {D I S T : Type 0} (view : RetraceView D I S T) (line : DebuggerLine) (old new : Host D S T)
     (ending : Ending) : Type 0 where
   pub lacks : CannotRead (view.disk old.disk).files (view.disk new.disk) line ending
   pub stream : new.stream ≡ old.stream
   pub term : new.term ≡ old.term
 
 -- The files are read, and the commands are served over them.
-pub record ServesFiles {D I S T : Type 0} (view : RetraceView D I S T) (line : Line) (old new : Host D S T)
+pub record ServesFiles {D I S T : Type 0} (view : RetraceView D I S T) (line : DebuggerLine) (old new : Host D S T)
     (ending : Ending) : Type 0 where
   pub first : Debugger
   pub last : Debugger
@@ -42,7 +42,7 @@ pub record ServesFiles {D I S T : Type 0} (view : RetraceView D I S T) (line : L
       (stage (view.coming new.stream) last (view.screen new.term)) ending
 
 -- A run over a line, by which no file changes.
-pub record RetracesLine {D I S T : Type 0} (view : RetraceView D I S T) (line : Line) (old new : Host D S T)
+pub record RetracesLine {D I S T : Type 0} (view : RetraceView D I S T) (line : DebuggerLine) (old new : Host D S T)
     (ending : Ending) : Type 0 where
   pub keeps : KeepsDisk (view.disk old.disk) (view.disk new.disk)
   pub ends : HasNoFiles view line old new ending ⊎ ServesFiles view line old new ending
@@ -51,7 +51,7 @@ pub record RetracesLine {D I S T : Type 0} (view : RetraceView D I S T) (line : 
 pub record RetracesWords {D I S T E : Type 0} (view : RetraceView D I S T) (errors : E → Screen)
     (words : Result (Vec (String Global) Global) LineFault) (old new : Host D S T) (told telling : E) (status : ℕ)
     : Type 0 where
-  pub line : Line
+  pub line : DebuggerLine
   pub line_is : WordsGivenSay words line
   pub ending : Ending
   pub run : RetracesLine view line old new ending

@@ -20,7 +20,7 @@ use Rattle.teco_debugger.specs.Spelling.{escaped}
 use Rattle.teco_debugger.specs.declared.debugger.Debugger.{Debugger}
 use Rattle.teco_debugger.specs.declared.ending.Ending.{Ending}
 use Rattle.teco_debugger.specs.declared.ending.Ending.TheVariants.{Done, NoText, NoInput, NoMemory, ReadFault, ShowFault}
-use Rattle.teco_debugger.specs.declared.line.Line.{Line}
+use Rattle.teco_debugger.specs.declared.line.DebuggerLine.{DebuggerLine}
 use Rattle.teco_debugger.specs.declared.reading.FileFault.{FileFault}
 use Rattle.teco_debugger.specs.declared.reading.FileFault.TheVariants as file
 
@@ -49,7 +49,7 @@ string_in true bytes = map escaped bytes
 string_in false bytes = bytes
 
 -- The command string of the line is what its file has.
-abbrev pub IsTextOf : Option Files → Line → List ℕ → Type 0
+abbrev pub IsTextOf : Option Files → DebuggerLine → List ℕ → Type 0
 IsTextOf files line text =
     (bytes : List ℕ) × IsInput files (string_bytes line.text) bytes × (text ≡ string_in line.dollar bytes)
 
@@ -60,7 +60,7 @@ IsInputOf files None input = input ≡ []
 
 -- The debugger stands before the first step of the line's command string, over the line's input, under its limit. No
 -- move is done yet, and no place to stop at is noted.
-pub record BeginsOver (files : Option Files) (line : Line) (debugger : Debugger) : Type 0 where
+pub record BeginsOver (files : Option Files) (line : DebuggerLine) (debugger : Debugger) : Type 0 where
   pub text : IsTextOf files line debugger.walk.text
   pub input : IsInputOf files line.input debugger.walk.input
   pub steps : debugger.walk.steps ≡ 0
@@ -69,7 +69,7 @@ pub record BeginsOver (files : Option Files) (line : Line) (debugger : Debugger)
   pub stop : debugger.stop ≡ None
 
 -- Why there is no debugger: one of the two files is not read, or memory was refused.
-abbrev pub CannotRead : {I : Type 0} → Option Files → DiskSeen I → Line → Ending → Type 0
+abbrev pub CannotRead : {I : Type 0} → Option Files → DiskSeen I → DebuggerLine → Ending → Type 0
 CannotRead files new line (NoText fault) = IsNotRead files new (string_bytes line.text) fault
 CannotRead files new line (NoInput fault) =
     (name : String Global) × (line.input ≡ Some name) × IsNotRead files new (string_bytes name) fault

@@ -4,10 +4,10 @@ use Rattle.std.specs.List.{prefix_len, suffix_len}
 use lib.Pointwise.{pointwise}
 use Rattle.teco_core.specs.Register.{register_of}
 use Rattle.teco_debugger.specs.Number.{number_in}
-use Rattle.teco_debugger.specs.declared.command.Command.{Command}
-use Rattle.teco_debugger.specs.declared.command.Command.TheVariants as command
-use Rattle.teco_debugger.specs.declared.command.Fault.{Fault}
-use Rattle.teco_debugger.specs.declared.command.Fault.TheVariants.{NoCommand, NoNumber, NoRegister, NoPlace, TooMuch}
+use Rattle.teco_debugger.specs.declared.command.DebuggerCommand.{DebuggerCommand}
+use Rattle.teco_debugger.specs.declared.command.DebuggerCommand.TheVariants as command
+use Rattle.teco_debugger.specs.declared.command.CommandFault.{CommandFault}
+use Rattle.teco_debugger.specs.declared.command.CommandFault.TheVariants.{NoCommand, NoNumber, NoRegister, NoPlace, TooMuch}
 use Rattle.teco_debugger.specs.declared.part.Part.{Part}
 use Rattle.teco_debugger.specs.declared.part.Part.TheVariants as part
 use Rattle.teco_messages.specs.declared.spot.Spot.{Spot}
@@ -77,27 +77,27 @@ abbrev pub after_word : List ℕ → List ℕ
 after_word bytes = without_blanks_before (drop (prefix_len (λ b. not (is_blank b)) bytes) bytes)
 
 -- a number, or one that stands for no bytes
-abbrev pub number_or : ℕ → List ℕ → Result ℕ Fault
+abbrev pub number_or : ℕ → List ℕ → Result ℕ CommandFault
 number_or otherwise [] = Ok otherwise
 number_or otherwise (b ∷ bytes) = number_in (b ∷ bytes)
 
 -- a command that wants nothing after its word
-abbrev pub alone : Command → List ℕ → Result Command Fault
+abbrev pub alone : DebuggerCommand → List ℕ → Result DebuggerCommand CommandFault
 alone command [] = Ok command
 alone command (b ∷ bytes) = Err TooMuch
 
 -- a command with what its operand is, where it is one
-abbrev pub given : {A B : Type 0} → (A → B) → Result A Fault → Result B Fault
+abbrev pub given : {A B : Type 0} → (A → B) → Result A CommandFault → Result B CommandFault
 given f (Ok x) = Ok (f x)
 given f (Err fault) = Err fault
 
-abbrev pub register_in : List ℕ → Result ℕ Fault
+abbrev pub register_in : List ℕ → Result ℕ CommandFault
 register_in [] = Err NoRegister
 register_in (b ∷ []) = elim (register_of b) [ Some q ↦ Ok q | None ↦ Err NoRegister ]
 register_in (b ∷ c ∷ bytes) = Err NoRegister
 
 -- a register, or the word `text`
-abbrev pub part_in : List ℕ → Result Part Fault
+abbrev pub part_in : List ℕ → Result Part CommandFault
 part_in bytes = if pointwise nat_eq bytes (codes "text") then Ok part.Buffer else given part.Register (register_in bytes)
 
 abbrev pub is_colon : ℕ → Bool
@@ -106,26 +106,26 @@ is_colon b = b == 58
 abbrev pub colon_in : List ℕ → ℕ
 colon_in bytes = prefix_len (λ b. not (is_colon b)) bytes
 
-abbrev pub spot_from : Result ℕ Fault → Result ℕ Fault → Result Spot Fault
+abbrev pub spot_from : Result ℕ CommandFault → Result ℕ CommandFault → Result Spot CommandFault
 spot_from (Ok line) (Ok column) = Ok (record { line = line; column = column })
 spot_from (Ok line) (Err fault) = Err NoPlace
 spot_from (Err fault) column = Err NoPlace
 
 -- two numbers with a colon between them
-abbrev pub spot_in : List ℕ → Result Spot Fault
+abbrev pub spot_in : List ℕ → Result Spot CommandFault
 spot_in bytes =
     if nat_lt (colon_in bytes) (length bytes)
     then spot_from (number_in (take (colon_in bytes) bytes)) (number_in (drop (colon_in bytes + 1) bytes))
     else Err NoPlace
 
-abbrev pub find : Part → Command
+abbrev pub find : Part → DebuggerCommand
 find part = command.Find part
 
-abbrev pub break_at : Spot → Command
+abbrev pub break_at : Spot → DebuggerCommand
 break_at spot = command.Break spot
 
 -- the command that takes this, with these bytes after its word
-abbrev pub command_in : Takes → List ℕ → Result Command Fault
+abbrev pub command_in : Takes → List ℕ → Result DebuggerCommand CommandFault
 command_in (Nothing plain) bytes = alone (command.Plain plain) bytes
 command_in (Number counted) bytes = given (command.Counted counted) (number_in bytes)
 command_in (NumberOr counted otherwise) bytes = given (command.Counted counted) (number_or otherwise bytes)
@@ -133,18 +133,18 @@ command_in Register bytes = given command.Register (register_in bytes)
 command_in ThePart bytes = given find (part_in bytes)
 command_in TheSpot bytes = given break_at (spot_in bytes)
 
-abbrev pub command_by : Option Takes → List ℕ → Result Command Fault
+abbrev pub command_by : Option Takes → List ℕ → Result DebuggerCommand CommandFault
 command_by (Some takes) bytes = command_in takes bytes
 command_by None bytes = Err NoCommand
 
 -- what a line asks: its first word tells the command, and what comes after it is the operand
-abbrev pub command_of : List ℕ → Result Command Fault
+abbrev pub command_of : List ℕ → Result DebuggerCommand CommandFault
 command_of line =
     let bytes = without_blanks_before (without_blanks_after line) in
     command_by (taken verbs (word_in bytes)) (after_word bytes)
 
 -- what is said of a line that is no command
-abbrev pub words_of : Fault → List ℕ
+abbrev pub words_of : CommandFault → List ℕ
 words_of NoCommand = codes "no such command; help lists them"
 words_of NoNumber = codes "a number is wanted"
 words_of NoRegister = codes "a register is wanted, A to Z or 0 to 9"

@@ -13,7 +13,7 @@ use teco_messages::Spot;
 
 /// What is asked.
 #[derive(Clone, Copy)]
-pub enum Command {
+pub enum DebuggerCommand {
     Plain(Plain),
     Counted(Counted, u64),
     Register(Reg),
@@ -25,7 +25,7 @@ pub enum Command {
 
 /// Why a line is no command.
 #[derive(Clone, Copy, Debug)]
-pub enum Fault {
+pub enum CommandFault {
     NoCommand,
     NoNumber,
     NoRegister,
@@ -33,22 +33,22 @@ pub enum Fault {
     TooMuch,
 }
 
-impl Fault {
+impl CommandFault {
     /// The fault in words.
     fn words(self) -> &'static str
         ensures { result.now ≡ words_of self }
     {
         match self {
-            Fault::NoCommand => "no such command; help lists them",
-            Fault::NoNumber => "a number is wanted",
-            Fault::NoRegister => "a register is wanted, A to Z or 0 to 9",
-            Fault::NoPlace => "a place is wanted, as LINE:COLUMN",
-            Fault::TooMuch => "nothing is wanted after this command",
+            CommandFault::NoCommand => "no such command; help lists them",
+            CommandFault::NoNumber => "a number is wanted",
+            CommandFault::NoRegister => "a register is wanted, A to Z or 0 to 9",
+            CommandFault::NoPlace => "a place is wanted, as LINE:COLUMN",
+            CommandFault::TooMuch => "nothing is wanted after this command",
         }
     }
 }
 
-impl fmt::Display for Fault {
+impl fmt::Display for CommandFault {
     ghost output = { λ fault. Some (words_of fault) };
 
     fn fmt<W: fmt::Write>(&self, f: &mut fmt::Formatter<W>) -> fmt::Result {
@@ -56,7 +56,7 @@ impl fmt::Display for Fault {
     }
 }
 
-impl Error for Fault {}
+impl Error for CommandFault {}
 
 fn after_blanks(bytes: &[u8]) -> &[u8]
     ensures { result.now ≡ without_blanks_before bytes.now }
@@ -90,26 +90,26 @@ fn word_end(bytes: &[u8]) -> usize
     end
 }
 
-fn register_in(bytes: &[u8]) -> Result<Reg, Fault>
+fn register_in(bytes: &[u8]) -> Result<Reg, CommandFault>
     ensures { result ≡ register_in bytes.now }
 {
     match bytes {
         [byte] => match Reg::of(*byte) {
             Some(q) => Ok(q),
-            None => Err(Fault::NoRegister),
+            None => Err(CommandFault::NoRegister),
         },
-        _ => Err(Fault::NoRegister),
+        _ => Err(CommandFault::NoRegister),
     }
 }
 
 /// The command that finds the part.
-fn find_in(bytes: &[u8]) -> Result<Command, Fault>
+fn find_in(bytes: &[u8]) -> Result<DebuggerCommand, CommandFault>
     ensures { result ≡ given find (part_in bytes.now) }
 {
     if bytes == b"text".as_slice() {
-        return Ok(Command::Find(Part::Buffer));
+        return Ok(DebuggerCommand::Find(Part::Buffer));
     }
-    Ok(Command::Find(Part::Register(register_in(bytes)?)))
+    Ok(DebuggerCommand::Find(Part::Register(register_in(bytes)?)))
 }
 
 /// Where the first colon is; the length where there is none.
@@ -125,48 +125,48 @@ fn colon(bytes: &[u8]) -> usize
 }
 
 /// The command that notes the place.
-fn break_in(bytes: &[u8]) -> Result<Command, Fault>
+fn break_in(bytes: &[u8]) -> Result<DebuggerCommand, CommandFault>
     ensures { result ≡ given break_at (spot_in bytes.now) }
 {
     let at = colon(bytes);
     if at == bytes.len() {
-        return Err(Fault::NoPlace);
+        return Err(CommandFault::NoPlace);
     }
     match (number_in(&bytes[..at]), number_in(&bytes[at + 1..])) {
-        (Ok(line), Ok(column)) => Ok(Command::Break(Spot { line, column })),
-        _ => Err(Fault::NoPlace),
+        (Ok(line), Ok(column)) => Ok(DebuggerCommand::Break(Spot { line, column })),
+        _ => Err(CommandFault::NoPlace),
     }
 }
 
 /// The command that takes this, with these bytes after its word.
-fn command_in(takes: Takes, bytes: &[u8]) -> Result<Command, Fault>
+fn command_in(takes: Takes, bytes: &[u8]) -> Result<DebuggerCommand, CommandFault>
     ensures { result ≡ command_in takes bytes.now }
 {
     match takes {
-        Takes::Nothing(plain) if bytes.is_empty() => Ok(Command::Plain(plain)),
-        Takes::Nothing(_) => Err(Fault::TooMuch),
+        Takes::Nothing(plain) if bytes.is_empty() => Ok(DebuggerCommand::Plain(plain)),
+        Takes::Nothing(_) => Err(CommandFault::TooMuch),
         Takes::NumberOr(counted, otherwise) if bytes.is_empty() => {
-            Ok(Command::Counted(counted, otherwise))
+            Ok(DebuggerCommand::Counted(counted, otherwise))
         }
         Takes::Number(counted) | Takes::NumberOr(counted, _) => {
-            Ok(Command::Counted(counted, number_in(bytes)?))
+            Ok(DebuggerCommand::Counted(counted, number_in(bytes)?))
         }
-        Takes::Register => Ok(Command::Register(register_in(bytes)?)),
+        Takes::Register => Ok(DebuggerCommand::Register(register_in(bytes)?)),
         Takes::Part => find_in(bytes),
         Takes::Spot => break_in(bytes),
     }
 }
 
-impl Command {
+impl DebuggerCommand {
     /// The command of a line: its first word tells which, and what comes after it is the operand. Blanks around both are passed.
-    pub fn of(line: &[u8]) -> Result<Command, Fault>
+    pub fn of(line: &[u8]) -> Result<DebuggerCommand, CommandFault>
         ensures { result ≡ command_of line.now }
     {
         let bytes = after_blanks(before_blanks(line));
         let end = word_end(bytes);
         match takes_of(&bytes[..end]) {
             Some(takes) => command_in(takes, after_blanks(&bytes[end..])),
-            None => Err(Fault::NoCommand),
+            None => Err(CommandFault::NoCommand),
         }
     }
 }

@@ -11,7 +11,7 @@ use crate::listing::{show_register, show_registers, show_state, show_text};
 use crate::moving::{ahead, behind};
 use crate::showing::{show_step, show_where};
 use crate::stops::next_stop;
-use crate::{Command, Counted, Plain, Walk};
+use crate::{Counted, DebuggerCommand, Plain, Walk};
 use std::alloc::Global;
 use teco_core::NoMemory;
 use teco_messages::{Spot, spell};
@@ -201,20 +201,20 @@ impl Debugger {
     }
 
     /// Does a command, and shows what it finds.
-    fn answer(&mut self, out: &mut String, command: Command) -> Result<(), NoMemory>
+    fn answer(&mut self, out: &mut String, command: DebuggerCommand) -> Result<(), NoMemory>
         requires { string_bytes out.old ≡ [] }
         ensures answers { OnOk result (AnswersCommand command self.old self.new (string_bytes out.new)) }
         ensures same { SameRun self.old self.new }
     {
         match command {
-            Command::Plain(plain) => self.answer_plain(out, plain),
-            Command::Counted(counted, n) => self.answer_counted(out, counted, n),
-            Command::Register(q) => show_register(out, self.walk.editor().registers(), q),
-            Command::Find(part) => {
+            DebuggerCommand::Plain(plain) => self.answer_plain(out, plain),
+            DebuggerCommand::Counted(counted, n) => self.answer_counted(out, counted, n),
+            DebuggerCommand::Register(q) => show_register(out, self.walk.editor().registers(), q),
+            DebuggerCommand::Find(part) => {
                 let to = self.walk.last_change(&part);
                 self.go_or_say(out, to, "no step before this one changed it")
             }
-            Command::Break(spot) => {
+            DebuggerCommand::Break(spot) => {
                 self.stop = Some(spot);
                 Ok(())
             }
@@ -222,7 +222,11 @@ impl Debugger {
     }
 
     /// What is shown of a command; if memory is refused to it, that alone, with the step at which the walk then stands.
-    fn answer_or_lack(&mut self, alloc: Global, command: Command) -> Result<String, NoMemory>
+    fn answer_or_lack(
+        &mut self,
+        alloc: Global,
+        command: DebuggerCommand,
+    ) -> Result<String, NoMemory>
         ensures answers { IfOk result (λ text. IsAnswerTo (Ok command) self.old self.new (string_bytes text)) }
         ensures same { SameRun self.old self.new }
     {
@@ -241,7 +245,7 @@ impl Debugger {
         ensures answers { IfOk result (λ text. IsAnswerTo (command_of line.now) self.old self.new (string_bytes text)) }
         ensures same { SameRun self.old self.new }
     {
-        match Command::of(line) {
+        match DebuggerCommand::of(line) {
             Ok(command) => self.answer_or_lack(alloc, command),
             Err(fault) => format!(in alloc; "{fault}\n"),
         }

@@ -5,7 +5,7 @@ ghost use Rattle.teco_fs.specs.Refusing.{Tells};
 ghost use Rattle.teco_debugger.specs.declared.reading.FileFault.TheVariants.{Unread};
 ghost use Rattle.teco_debugger.specs.Ending.{TellsEnding, ending_line, fault_words, input_name, status_of_ending, told_line};
 
-use crate::line::Line;
+use crate::line::DebuggerLine;
 use crate::reading::FileFault;
 use std::alloc::Global;
 use teco_core::NoMemory;
@@ -42,7 +42,7 @@ impl From<NoMemory> for Ending {
 }
 
 /// The name of the input, or nothing if the line names none.
-fn input_name(line: &Line) -> &str
+fn input_name(line: &DebuggerLine) -> &str
     ensures { result.now ≡ input_name line.now.input }
 {
     match &line.input {
@@ -78,7 +78,7 @@ fn told_fault(alloc: Global, name: &str, fault: FileFault) -> Result<String, NoM
 }
 
 /// What is told: a line, or nothing.
-fn line_of(alloc: Global, line: &Line, ending: Ending) -> Result<String, NoMemory>
+fn line_of(alloc: Global, line: &DebuggerLine, ending: Ending) -> Result<String, NoMemory>
     ensures ok { IfOk result (λ text. string_bytes text ≡ ending_line line.now ending) }
     ensures err { OnErr result (status_of_ending ending ≡ 1) }
 {
@@ -110,7 +110,12 @@ fn tell<E: Terminal>(bytes: &[u8], errors: &mut E)
 }
 
 /// Tells on standard error how a run ends, and gives the status.
-pub fn conclude<E: Terminal>(alloc: Global, line: &Line, ending: Ending, errors: &mut E) -> u8
+pub fn conclude<E: Terminal>(
+    alloc: Global,
+    line: &DebuggerLine,
+    ending: Ending,
+    errors: &mut E,
+) -> u8
     ensures { TellsEnding line.now ending (E.screen errors.old) (E.screen errors.new) result }
 {
     match line_of(alloc, line, ending) {

@@ -19,7 +19,7 @@ mod stops;
 mod verb;
 mod walk;
 
-pub use command::{Command, Fault};
+pub use command::{CommandFault, DebuggerCommand};
 pub use line::not_text;
 pub use part::Part;
 pub use running::program;

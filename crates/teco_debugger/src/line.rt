@@ -21,7 +21,7 @@ const USAGE: &str = "teco-debug [OPTIONS] <MACRO>";
 
 /// What the command line says.
 #[derive(Drop)]
-pub struct Line {
+pub struct DebuggerLine {
     /// The most steps of the string, at most [`MOST_STEPS`].
     pub limit: u64,
     /// The file of the input, if one is given.
@@ -108,14 +108,14 @@ fn limit_at(matches: &ArgMatches) -> u64
 }
 
 /// The line that a parse gives.
-fn line_in<'a>(alloc: Global, matches: &ArgMatches<'a>) -> Result<Line, LineFault>
+fn line_in<'a>(alloc: Global, matches: &ArgMatches<'a>) -> Result<DebuggerLine, LineFault>
     ensures line { IfOk result (LineHas (rows_of (found_of matches.now))) }
     ensures range { IfOk result (λ line. line.limit ≤ 1000000000000) }
     ensures refused { IfErr result (λ fault. fault ≡ LineFault.NoMemory) }
 {
     let text = text_or_empty(alloc, text_at(alloc, matches, "macro")?);
     let input = text_at(alloc, matches, "input")?;
-    Ok(Line {
+    Ok(DebuggerLine {
         limit: limit_at(matches),
         input,
         dollar: flag_at(matches, "dollar"),
@@ -124,7 +124,7 @@ fn line_in<'a>(alloc: Global, matches: &ArgMatches<'a>) -> Result<Line, LineFaul
 }
 
 /// What the words say, the program's name first: `teco-debug [--limit N] [--input FILE] [--dollar] MACRO`.
-pub fn line_of(alloc: Global, words: &[String]) -> Result<Line, LineFault>
+pub fn line_of(alloc: Global, words: &[String]) -> Result<DebuggerLine, LineFault>
     ensures line { IfOk result (WordsSay (map string_bytes words.now)) }
     ensures range { IfOk result (λ line. line.limit ≤ 1000000000000) }
     ensures refused { IfErr result (WordsSayNone (map string_bytes words.now)) }

@@ -10,7 +10,7 @@ ghost use Rattle.teco_debugger.specs.Reading.{IsInputOf, IsTextOf, CannotRead};
 use crate::Walk;
 use crate::debugger::Debugger;
 use crate::ending::{Ending, NO_MEMORY, conclude};
-use crate::line::{Line, line_of};
+use crate::line::{DebuggerLine, line_of};
 use crate::reading::{read_file, with_escapes};
 use crate::serving::serve;
 use std::alloc::Global;
@@ -22,7 +22,7 @@ use teco_fs::{Disk, refuse};
 use teco_io::Terminal;
 
 /// The command string of the line.
-fn text_of<D: Disk>(alloc: Global, line: &Line, disk: &mut D) -> Result<Vec<u8>, Ending>
+fn text_of<D: Disk>(alloc: Global, line: &DebuggerLine, disk: &mut D) -> Result<Vec<u8>, Ending>
     ensures text { IfOk result (λ text. IsTextOf (D.files disk.old) line.now text.items) }
     ensures lacks { let seen = disk_seen D.Disk D.Input.Source in
         IfErr result (CannotRead (D.files disk.old) (seen disk.new) line.now) }
@@ -41,7 +41,7 @@ fn text_of<D: Disk>(alloc: Global, line: &Line, disk: &mut D) -> Result<Vec<u8>,
 }
 
 /// The input of the line, which is empty if none is named.
-fn input_of<D: Disk>(alloc: Global, line: &Line, disk: &mut D) -> Result<Vec<u8>, Ending>
+fn input_of<D: Disk>(alloc: Global, line: &DebuggerLine, disk: &mut D) -> Result<Vec<u8>, Ending>
     ensures input { IfOk result (λ input. IsInputOf (D.files disk.old) line.now.input input.items) }
     ensures most { IfOk result (λ input. vec_len input ≤ FILE_LIMIT) }
     ensures lacks { let seen = disk_seen D.Disk D.Input.Source in
@@ -61,7 +61,7 @@ fn input_of<D: Disk>(alloc: Global, line: &Line, disk: &mut D) -> Result<Vec<u8>
 /// Serves the commands over what the line asks for; says how that ends, or why there is nothing to serve them over.
 fn retrace<C: BufRead, T: Terminal, D: Disk>(
     alloc: Global,
-    line: &Line,
+    line: &DebuggerLine,
     commands: &mut C,
     term: &mut T,
     disk: &mut D,
@@ -79,7 +79,7 @@ fn retrace<C: BufRead, T: Terminal, D: Disk>(
     Ok(serve(alloc, &mut debugger, commands, term))
 }
 
-fn line_by(alloc: Global, words: Result<Vec<String>, LineFault>) -> Result<Line, LineFault>
+fn line_by(alloc: Global, words: Result<Vec<String>, LineFault>) -> Result<DebuggerLine, LineFault>
     ensures line { IfOk result (WordsGivenSay words) }
     ensures fault { IfErr result (WordsGivenSayNone words) }
 {

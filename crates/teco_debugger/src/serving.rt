@@ -6,7 +6,7 @@ ghost use Rattle.teco_debugger.specs.Verb.{command_of};
 
 use crate::debugger::Debugger;
 use crate::ending::Ending;
-use crate::{Command, Plain};
+use crate::{DebuggerCommand, Plain};
 use std::alloc::Global;
 use std::io::BufRead;
 use teco_core::NoMemory;
@@ -16,7 +16,10 @@ use teco_io::{Terminal, TerminalFault};
 fn is_leaving(line: &[u8]) -> bool
     ensures { result ≡ is_leaving (command_of line.now) }
 {
-    matches!(Command::of(line), Ok(Command::Plain(Plain::Quit)))
+    matches!(
+        DebuggerCommand::of(line),
+        Ok(DebuggerCommand::Plain(Plain::Quit))
+    )
 }
 
 /// IsAnswerTo a line, unless it asks to leave; says how the serving ends, if it does.

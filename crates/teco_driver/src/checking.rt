@@ -8,7 +8,7 @@ ghost use Rattle.teco_driver.specs.Runs.{ChecksLine};
 ghost use Rattle.teco_fs.specs.Seen.{disk_seen};
 
 use crate::verdict::verdict_on;
-use crate::{Host, Parts, commands_given, decline, no_memory};
+use crate::{Host, ReadSources, commands_given, decline, no_memory};
 use std::alloc::Global;
 use teco_cli::{Commands, Line};
 use teco_fs::Disk;
@@ -34,7 +34,7 @@ fn cannot_show<E: Terminal>(errors: &mut E) -> u8
 fn tell_verdict<T: Terminal, E: Terminal>(
     alloc: Global,
     commands: &Commands,
-    parts: &Parts,
+    parts: &ReadSources,
     bytes: &[u8],
     term: &mut T,
     errors: &mut E,
@@ -62,7 +62,7 @@ pub fn check_line<S: Source, A, T: Terminal, E: Terminal, D: Disk>(
     ensures { let seen = disk_seen D.Disk D.Input.Source in
         ChecksLine seen S.Source T.screen E.screen line.now host.old host.new errors.old errors.new result }
 {
-    let mut parts = Parts::kept(alloc);
+    let mut parts = ReadSources::kept(alloc);
     match commands_given(
         alloc,
         &line.commands,

@@ -18,4 +18,4 @@ pub use concluding::{NO_MEMORY, conclude, no_memory};
 pub use giving::{Feed, edit_given, feed_of};
 pub use host::Host;
 pub use running::program;
-pub use sources::{CommandsFault, Part, Parts, commands_given, decline, source_name};
+pub use sources::{CommandsFault, ReadSource, ReadSources, commands_given, decline, source_name};

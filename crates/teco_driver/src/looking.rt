@@ -4,7 +4,7 @@ ghost use Rattle.teco_driver.specs.Given.{come_as_wanted};
 ghost use Rattle.teco_driver.specs.Checks.{AreRejected, MayRun};
 
 use crate::verdict::verdict_on;
-use crate::{Parts, no_memory};
+use crate::{ReadSources, no_memory};
 use std::alloc::Global;
 use teco_cli::Commands;
 use teco_core::NoMemory;
@@ -23,7 +23,7 @@ fn come_as_wanted(commands: &Commands) -> bool
 pub(crate) fn status_if_misspelt<E: Terminal>(
     alloc: Global,
     commands: &Commands,
-    parts: &Parts,
+    parts: &ReadSources,
     bytes: &[u8],
     errors: &mut E,
 ) -> Option<u8>

@@ -11,7 +11,7 @@ ghost use Rattle.teco_driver.specs.Runs.{LinkGiven, RunsIfSpelt, RunsInOrder, Ru
 ghost use Rattle.teco_fs.specs.Seen.{disk_seen};
 
 use crate::looking::status_if_misspelt;
-use crate::{Feed, Host, Parts, commands_given, conclude, decline, edit_given};
+use crate::{Feed, Host, ReadSources, commands_given, conclude, decline, edit_given};
 use std::alloc::Global;
 use teco_cli::Line;
 use teco_fs::Disk;
@@ -88,7 +88,7 @@ fn edit_each<S: Source, A: Alarm, T: Terminal, E: Terminal, N: Terminal, D: Disk
 fn edit_looked_at<S: Source, A: Alarm, T: Terminal, E: Terminal, N: Terminal, D: Disk>(
     alloc: Global,
     line: &Line,
-    parts: &Parts,
+    parts: &ReadSources,
     bytes: &[u8],
     host: &mut Host<S, A, T, D>,
     errors: &mut E,
@@ -120,7 +120,7 @@ pub fn edit_all<S: Source, A: Alarm, T: Terminal, E: Terminal, N: Terminal, D: D
         RunsOverAll view E.screen line.now host.old host.new errors.old errors.new result }
     ensures silent { line.now.explain ≡ false → notes.new ≡ notes.old }
 {
-    let mut parts = Parts::kept(alloc);
+    let mut parts = ReadSources::kept(alloc);
     match commands_given(
         alloc,
         &line.commands,

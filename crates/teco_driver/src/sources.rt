@@ -17,7 +17,7 @@ use teco_fs::{Disk, Reason};
 use teco_io::{Source, Terminal};
 use teco_messages::{Spot, spot_of};
 use teco_serve::{Fate, said_of, said_why};
-use teco_source::{SourceFault, commands};
+use teco_source::{ReaderFault, commands};
 
 /// Why the commands of a line are not had.
 #[derive(Clone, Copy)]
@@ -44,7 +44,7 @@ impl From<NoMemory> for CommandsFault {
 
 /// A source as it was read: its number among those of the line, and where its commands end among all.
 #[derive(Drop)]
-pub struct Part {
+pub struct ReadSource {
     pub at: usize,
     pub source: Vec<u8>,
     pub to: usize,
@@ -52,13 +52,13 @@ pub struct Part {
 
 /// The sources of a line, if they are kept once their commands are had.
 #[derive(Drop)]
-pub struct Parts {
+pub struct ReadSources {
     keeps: bool,
-    list: Vec<Part>,
+    list: Vec<ReadSource>,
 }
 
-impl Parts {
-    /// Parts of which none is kept.
+impl ReadSources {
+    /// Sources of which none is kept.
     pub fn unkept(alloc: Global) -> Self {
         Self {
             keeps: false,
@@ -66,7 +66,7 @@ impl Parts {
         }
     }
 
-    /// Parts that are kept.
+    /// Sources that are kept.
     pub fn kept(alloc: Global) -> Self {
         Self {
             keeps: true,
@@ -75,14 +75,14 @@ impl Parts {
     }
 
     /// Those that are kept, in order.
-    pub fn list(&self) -> &[Part] {
+    pub fn list(&self) -> &[ReadSource] {
         self.list.as_slice()
     }
 
     /// Puts a source after the others, if they are kept.
     fn keep(&mut self, at: usize, source: Vec<u8>, to: usize) -> Result<(), NoMemory> {
         if self.keeps {
-            self.list.push(Part { at, source, to })?;
+            self.list.push(ReadSource { at, source, to })?;
         }
         Ok(())
     }
@@ -110,8 +110,8 @@ fn commands_in(alloc: Global, source: &[u8], at: usize) -> Result<Vec<u8>, Comma
 {
     match commands(alloc, source) {
         Ok(strings) => Ok(strings),
-        Err(SourceFault::Memory) => Err(CommandsFault::Memory),
-        Err(SourceFault::Caret(place)) => Err(CommandsFault::Caret(at, spot_of(source, place))),
+        Err(ReaderFault::Memory) => Err(CommandsFault::Memory),
+        Err(ReaderFault::Caret(place)) => Err(CommandsFault::Caret(at, spot_of(source, place))),
     }
 }
 
@@ -176,7 +176,7 @@ fn commands_in_files<S: Source, D: Disk>(
     names: &[String],
     stream: &mut S,
     disk: &mut D,
-    parts: &mut Parts,
+    parts: &mut ReadSources,
 ) -> Result<Vec<u8>, CommandsFault>
     ensures read { IfOk result (λ made. AreCommandsIn S.Source
         (D.files disk.old) names.now stream.old stream.new made.items) }
@@ -201,7 +201,7 @@ fn append_word(
     made: &mut Vec<u8>,
     word: &str,
     at: usize,
-    parts: &mut Parts,
+    parts: &mut ReadSources,
 ) -> Result<(), CommandsFault>
     ensures read { IfOk result (λ _. (strings : List ℕ) × (commands_of word.now ≡ Ok strings)
         × (made.new.items ≡ made.old.items ++ strings)) }
@@ -217,7 +217,7 @@ fn append_word(
 fn commands_for_pages(
     alloc: Global,
     word: &str,
-    parts: &mut Parts,
+    parts: &mut ReadSources,
 ) -> Result<Vec<u8>, CommandsFault>
     ensures read { IfOk result (λ made. (strings : List ℕ) × (commands_of word.now ≡ Ok strings)
         × (made.items ≡ on_pages strings)) }
@@ -235,7 +235,7 @@ pub fn commands_given<S: Source, D: Disk>(
     commands: &Commands,
     stream: &mut S,
     disk: &mut D,
-    parts: &mut Parts,
+    parts: &mut ReadSources,
 ) -> Result<Vec<u8>, CommandsFault>
     requires { are_awaited commands.now ≡ false }
     ensures given { IfOk result (λ bytes. IsGivenBy S.Source

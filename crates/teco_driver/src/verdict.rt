@@ -4,13 +4,13 @@ ghost use Rattle.teco_lint.specs.Spelling.{is_misspelt};
 ghost use Rattle.teco_lint.specs.Strings.{is_faulty};
 ghost use Rattle.teco_driver.specs.Checks.{SaysOfLine, SaysAlone, SaysOf};
 
-use crate::{Parts, source_name};
+use crate::{ReadSources, source_name};
 use std::alloc::Global;
 use teco_cli::Commands;
 use teco_core::NoMemory;
 use teco_lint::{Advice, Remark, What, check, is_misspelt, report, report_part};
 use teco_scan::Span;
-use teco_source::{SourceFault, beginnings, commands as commands_of};
+use teco_source::{ReaderFault, beginnings, commands as commands_of};
 
 /// What a check tells, whether it found a fault, and whether it found one by which a run ends.
 #[derive(Drop)]
@@ -39,7 +39,7 @@ fn places_of(alloc: Global, commands: &Commands, source: &[u8]) -> Result<Vec<us
 fn lines_of_parts(
     alloc: Global,
     commands: &Commands,
-    parts: &Parts,
+    parts: &ReadSources,
     bytes: &[u8],
     remarks: &[Remark],
 ) -> Result<String, NoMemory> {
@@ -72,7 +72,7 @@ fn lines_of_parts(
 fn lines_of(
     alloc: Global,
     commands: &Commands,
-    parts: &Parts,
+    parts: &ReadSources,
     bytes: &[u8],
     remarks: &[Remark],
 ) -> Result<String, NoMemory> {
@@ -97,7 +97,7 @@ fn faults_of(alloc: Global, advice: &Advice) -> Result<Vec<Remark>, NoMemory> {
 fn verdict_on_all(
     alloc: Global,
     commands: &Commands,
-    parts: &Parts,
+    parts: &ReadSources,
     bytes: &[u8],
     hints: bool,
 ) -> Result<Verdict, NoMemory>
@@ -172,8 +172,8 @@ fn verdict_alone(alloc: Global, commands: &Commands) -> Result<Verdict, NoMemory
             source,
             strings.as_slice(),
         ),
-        Err(SourceFault::Caret(_)) => Ok(unchecked(alloc)),
-        Err(SourceFault::Memory) => Err(NoMemory),
+        Err(ReaderFault::Caret(_)) => Ok(unchecked(alloc)),
+        Err(ReaderFault::Memory) => Err(NoMemory),
     }
 }
 
@@ -182,7 +182,7 @@ fn verdict_alone(alloc: Global, commands: &Commands) -> Result<Verdict, NoMemory
 pub(crate) fn verdict_on(
     alloc: Global,
     commands: &Commands,
-    parts: &Parts,
+    parts: &ReadSources,
     bytes: &[u8],
     hints: bool,
 ) -> Result<Verdict, NoMemory>

@@ -19,7 +19,7 @@ mod unkept;
 pub use comparing::has_bytes;
 pub use disk::Disk;
 pub use file_disk::FileDisk;
-pub use memory_disk::{MemoryDisk, Refused};
+pub use memory_disk::{MemoryDisk, RefusedCall};
 pub use output::{Written, write_output};
 pub use piped::{Piped, UntilLeft};
 pub use reason::{Reason, reason_of};

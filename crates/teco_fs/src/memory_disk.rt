@@ -1,6 +1,6 @@
 //! Files in memory.
 ghost use Rattle.std.specs.Prelude.{◌≡◌, ⊤, true, IfOk, IfSome, IsNone, Some};
-ghost use Rattle.teco_fs.specs.declared.memory_disk.Refused.TheVariants.{Changed};
+ghost use Rattle.teco_fs.specs.declared.memory_disk.RefusedCall.TheVariants.{Changed};
 ghost use Rattle.teco_fs.specs.Disk.{IsStream, IsTargetOf, Opens};
 ghost use Rattle.teco_fs.specs.FileLog.{WereOnce, files_of};
 
@@ -20,7 +20,7 @@ use log::Log;
 
 /// Which call is refused.
 #[derive(Clone, Copy, PartialEq)]
-pub enum Refused {
+pub enum RefusedCall {
     Nothing,
     /// A read of a file that was opened.
     Read,
@@ -46,7 +46,7 @@ pub struct MemoryDisk {
     log: Log,
     // what each device was given
     devices: Log,
-    refused: Refused,
+    refused: RefusedCall,
     failures: Failures,
     // whether a file could not be removed
     unremoved: bool,
@@ -55,7 +55,7 @@ pub struct MemoryDisk {
 }
 
 impl MemoryDisk {
-    pub fn new(alloc: Global, refused: Refused) -> MemoryDisk {
+    pub fn new(alloc: Global, refused: RefusedCall) -> MemoryDisk {
         MemoryDisk {
             alloc,
             log: Log::new(alloc),
@@ -110,7 +110,7 @@ fn target_among(devices: &Log, alloc: Global, name: &str) -> io::Result<Target>
 fn regular_in(
     log: &Log,
     devices: &Log,
-    refused: Refused,
+    refused: RefusedCall,
     name: &str,
 ) -> io::Result<Option<MemorySource>>
     ensures input { IfOk result (λ found. IfSome found
@@ -165,7 +165,7 @@ impl Disk for MemoryDisk {
     }
 
     fn is_as_read(&mut self, _name: &str) -> io::Result<bool> {
-        Ok(self.refused != Refused::Changed)
+        Ok(self.refused != RefusedCall::Changed)
     }
 
     fn target_of(&mut self, name: &str) -> io::Result<Target> {
@@ -191,15 +191,15 @@ impl Disk for MemoryDisk {
 
     fn make_like(&mut self, _draft: &(), _name: &str) {
         self.unkept = match self.refused {
-            Refused::Owner => Some(Unkept::Owner),
-            Refused::Changes => Some(Unkept::Changes),
+            RefusedCall::Owner => Some(Unkept::Owner),
+            RefusedCall::Changes => Some(Unkept::Changes),
             _ => None,
         };
     }
 
     fn sync(&mut self, _draft: &(), _name: &str) -> io::Result<()> {
         let synced = match self.refused {
-            Refused::Sync => Err(io::Error::from(ErrorKind::StorageFull)),
+            RefusedCall::Sync => Err(io::Error::from(ErrorKind::StorageFull)),
             _ => Ok(()),
         };
         self.failures.counted(synced)

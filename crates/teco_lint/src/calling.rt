@@ -11,12 +11,12 @@ use teco_scan::{Found, Item, RegisterCommand, Token, TokenKind, filler_end, toke
 
 /// Which registers are called, and which are given a text.
 #[derive(Clone, Copy)]
-pub struct Registers {
+pub struct RegisterUses {
     pub called: [bool; REGISTERS],
     pub given: [bool; REGISTERS],
 }
 
-impl Registers {
+impl RegisterUses {
     /// Notes what a command does to the register of this number.
     fn note(&mut self, command: RegisterCommand, index: usize)
         requires { index < 36 }
@@ -92,10 +92,10 @@ impl Registers {
 /// Which registers the commands call, and which they give a text.
 ///
 /// A text counts if it is put where code is. So the commands are gone over until no more registers are called.
-pub fn registers_in(commands: &[u8]) -> Registers
+pub fn registers_in(commands: &[u8]) -> RegisterUses
     ensures { AreCalled result.called commands.now }
 {
-    let mut registers = Registers {
+    let mut registers = RegisterUses {
         called: [false; REGISTERS],
         given: [false; REGISTERS],
     };

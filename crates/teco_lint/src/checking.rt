@@ -4,7 +4,7 @@ ghost use Rattle.teco_lint.specs.Told.{IsTold, TellsFirst};
 ghost use Rattle.teco_lint.specs.Calls.{AreCalled};
 ghost use Rattle.teco_lint.specs.Strings.{AreTold, is_faulty, is_faulty_string, is_request, strings_of};
 
-use crate::calling::{Registers, registers_in};
+use crate::calling::{RegisterUses, registers_in};
 use crate::cutting::string_end;
 use crate::requests::{ends_in_escape, is_request};
 use crate::{Hint, Hinting, Remark, push_both, push_faults, push_hints, push_last_hints};
@@ -29,7 +29,7 @@ fn check_string(
     alloc: Global,
     remarks: &mut Vec<Remark>,
     hinting: &mut Hinting,
-    registers: &Registers,
+    registers: &RegisterUses,
     string: &[u8],
     from: usize,
 ) -> Result<bool, NoMemory>

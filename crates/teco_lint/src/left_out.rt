@@ -3,7 +3,7 @@ ghost use Rattle.std.specs.Prelude.{◌≡◌, ◌≤◌, length, IfSome};
 
 /// What follows the name of a command that is left out.
 #[derive(Clone, Copy)]
-pub enum Takes {
+pub enum Operands {
     Nothing,
     Register,
     Text,
@@ -20,12 +20,12 @@ pub struct LeftOut {
     pub does: &'static str,
     /// What to write in its place.
     pub instead: &'static str,
-    pub takes: Takes,
+    pub takes: Operands,
 }
 
 macro_rules! rows {
     ($($takes:ident $written:literal $does:literal $instead:literal;)*) => {
-        [$(LeftOut { written: $written, does: $does, instead: $instead, takes: Takes::$takes }),*]
+        [$(LeftOut { written: $written, does: $does, instead: $instead, takes: Operands::$takes }),*]
     };
 }
 

@@ -1,7 +1,7 @@
 //! Passing over a fault, so that those after it can be told.
 ghost use Rattle.std.specs.Prelude.{◌≡◌, ◌≤◌, length, vec_len};
 
-use crate::left_out::{Takes, row_of};
+use crate::left_out::{Operands, row_of};
 use crate::naming::{modifiers_len, name_len, name_of};
 use crate::remarks::FaultIn;
 use memchr::memchr;
@@ -32,13 +32,13 @@ fn after(bytes: &[u8], len: usize) -> &[u8] {
 }
 
 /// How many bytes the operands have of a command that is left out.
-fn operands_len(bytes: &[u8], takes: Takes) -> usize {
+fn operands_len(bytes: &[u8], takes: Operands) -> usize {
     match takes {
-        Takes::Nothing => 0,
-        Takes::Register => 1,
-        Takes::Text => text_len(bytes),
-        Takes::RegisterAndText => text_len(after(bytes, 1)).saturating_add(1),
-        Takes::TwoTexts => {
+        Operands::Nothing => 0,
+        Operands::Register => 1,
+        Operands::Text => text_len(bytes),
+        Operands::RegisterAndText => text_len(after(bytes, 1)).saturating_add(1),
+        Operands::TwoTexts => {
             let first = text_len(bytes);
             text_len(after(bytes, first)).saturating_add(first)
         }
@@ -64,10 +64,10 @@ fn unread_len(bytes: &[u8], code: Code) -> usize {
 }
 
 /// What follows the name of a command with a register.
-fn takes_after(name: &[u8]) -> Takes {
+fn takes_after(name: &[u8]) -> Operands {
     match name {
-        [.., 21] | [.., b'^', b'U' | b'u'] => Takes::RegisterAndText,
-        _ => Takes::Register,
+        [.., 21] | [.., b'^', b'U' | b'u'] => Operands::RegisterAndText,
+        _ => Operands::Register,
     }
 }
 

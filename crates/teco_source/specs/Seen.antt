@@ -5,8 +5,8 @@ use Rattle.std.specs.declared.vec.Vec.{Vec}
 use Rattle.teco_source.specs.declared.reader.Reader.{Reader}
 use Rattle.teco_source.specs.declared.reader.Marked.{Marked}
 use Rattle.teco_source.specs.declared.reader.Marked.TheVariants as caret
-use Rattle.teco_source.specs.declared.reader.SourceFault.{SourceFault}
-use Rattle.teco_source.specs.declared.reader.SourceFault.TheVariants as fault
+use Rattle.teco_source.specs.declared.reader.ReaderFault.{ReaderFault}
+use Rattle.teco_source.specs.declared.reader.ReaderFault.TheVariants as fault
 use Rattle.teco_source.specs.declared.reader.Mode.TheVariants.{Text}
 use Rattle.teco_source.specs.Source.{State}
 
@@ -23,7 +23,7 @@ abbrev pub kept : State → State
 kept s = record { mode = Text; bytes = s.bytes ++ s.blanks; blanks = [] }
 
 -- What was read is what it was to be; or it wasn't read, for want of memory.
-abbrev pub IsReadAs : Result (List ℕ) ℕ → Result (Vec ℕ Global) SourceFault → Type 0
+abbrev pub IsReadAs : Result (List ℕ) ℕ → Result (Vec ℕ Global) ReaderFault → Type 0
 IsReadAs read (Ok v) = read ≡ Ok v.items
 IsReadAs read (Err (fault.Caret at)) = read ≡ Err at
 IsReadAs read (Err fault.Memory) = ⊤

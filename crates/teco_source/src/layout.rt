@@ -9,7 +9,7 @@ use teco_scan::{
 
 /// What a token is for a layout.
 #[derive(Clone, Copy)]
-pub enum Part {
+pub enum TokenRole {
     Opens(Kind),
     Divides,
     Closes,
@@ -19,30 +19,30 @@ pub enum Part {
     Value,
 }
 
-fn item_part(item: Item, has_number: bool) -> Part {
+fn item_role(item: Item, has_number: bool) -> TokenRole {
     match item {
-        Item::Bare(Bare::Command(_)) => Part::Command,
-        Item::Bare(Bare::Level(LevelCommand::Append)) if !has_number => Part::Command,
-        Item::Bare(Bare::Level(LevelCommand::Decimal)) if has_number => Part::Command,
-        Item::Register(RegisterCommand::Number | RegisterCommand::Increment, _) => Part::Value,
-        Item::Register(..) => Part::Command,
-        Item::Text(..) => Part::Command,
-        Item::SetText(..) => Part::Command,
-        Item::Replace(..) => Part::Command,
-        _ => Part::Value,
+        Item::Bare(Bare::Command(_)) => TokenRole::Command,
+        Item::Bare(Bare::Level(LevelCommand::Append)) if !has_number => TokenRole::Command,
+        Item::Bare(Bare::Level(LevelCommand::Decimal)) if has_number => TokenRole::Command,
+        Item::Register(RegisterCommand::Number | RegisterCommand::Increment, _) => TokenRole::Value,
+        Item::Register(..) => TokenRole::Command,
+        Item::Text(..) => TokenRole::Command,
+        Item::SetText(..) => TokenRole::Command,
+        Item::Replace(..) => TokenRole::Command,
+        _ => TokenRole::Value,
     }
 }
 
 /// What a token is, after a number or none.
-pub fn part_of(kind: TokenKind, has_number: bool) -> Part {
+pub fn role_of(kind: TokenKind, has_number: bool) -> TokenRole {
     match kind {
-        TokenKind::Mark(BlockMark::Iterate) => Part::Opens(Kind::Iter),
-        TokenKind::Test(_) => Part::Opens(Kind::Then),
-        TokenKind::Mark(BlockMark::Otherwise) => Part::Divides,
-        TokenKind::Mark(_) => Part::Closes,
-        TokenKind::Item(item) => item_part(item, has_number),
-        TokenKind::Tag(_) => Part::Command,
-        TokenKind::Escape => Part::Value,
+        TokenKind::Mark(BlockMark::Iterate) => TokenRole::Opens(Kind::Iter),
+        TokenKind::Test(_) => TokenRole::Opens(Kind::Then),
+        TokenKind::Mark(BlockMark::Otherwise) => TokenRole::Divides,
+        TokenKind::Mark(_) => TokenRole::Closes,
+        TokenKind::Item(item) => item_role(item, has_number),
+        TokenKind::Tag(_) => TokenRole::Command,
+        TokenKind::Escape => TokenRole::Value,
     }
 }
 
@@ -99,7 +99,7 @@ fn short_block(text: &[u8], at: usize, kind: Kind, limit: usize) -> Option<usize
 
 /// A line of a listing.
 #[derive(Clone, Copy)]
-pub struct Line {
+pub struct ListingLine {
     /// How far it is in.
     pub margin: usize,
     /// Where it ends.
@@ -136,8 +136,8 @@ impl Layout {
         requires { at ≤ length text.now }
     {
         let depth = match token_at(text, at) {
-            Found::Token(token) => match part_of(token.kind, false) {
-                Part::Closes | Part::Divides => self.depth.saturating_sub(1),
+            Found::Token(token) => match role_of(token.kind, false) {
+                TokenRole::Closes | TokenRole::Divides => self.depth.saturating_sub(1),
                 _ => self.depth,
             },
             _ => self.depth,
@@ -145,14 +145,14 @@ impl Layout {
         depth.min(DEEPEST) * 2
     }
 
-    /// Whether a line that began at one place ends after a part that ends at another; and the place after the whole block, if the
-    /// part opens a short one.
-    fn after_part(&mut self, text: &[u8], at: usize, part: Part, to: usize) -> (usize, bool)
+    /// Whether a line that began at one place ends after a token that ends at another; and the place after the whole block, if the
+    /// token opens a short one.
+    fn after_token(&mut self, text: &[u8], at: usize, role: TokenRole, to: usize) -> (usize, bool)
         requires { (at ≤ to) × (to ≤ length text.now) }
         ensures { (to ≤ result.0) × (result.0 ≤ length text.now) }
     {
-        match part {
-            Part::Opens(kind) => {
+        match role {
+            TokenRole::Opens(kind) => {
                 let limit = text.len().min(at.saturating_add(self.width));
                 if let Some(end) = short_block(text, to, kind, limit) {
                     return (end, is_at(text, end, b'\n'));
@@ -160,13 +160,13 @@ impl Layout {
                 self.depth = self.depth.saturating_add(1);
                 (to, true)
             }
-            Part::Divides => (to, true),
-            Part::Closes => {
+            TokenRole::Divides => (to, true),
+            TokenRole::Closes => {
                 self.depth = self.depth.saturating_sub(1);
                 (to, true)
             }
-            Part::Command => (to, to - at > self.width || is_at(text, to, b'\n')),
-            Part::Value => (to, false),
+            TokenRole::Command => (to, to - at > self.width || is_at(text, to, b'\n')),
+            TokenRole::Value => (to, false),
         }
     }
 
@@ -181,22 +181,25 @@ impl Layout {
             let Found::Token(token) = token_at(text, to) else {
                 return text.len();
             };
-            let part = part_of(token.kind, has_number);
-            if to > at && matches!(part, Part::Divides | Part::Closes) && may_break(text, to) {
+            let role = role_of(token.kind, has_number);
+            if to > at
+                && matches!(role, TokenRole::Divides | TokenRole::Closes)
+                && may_break(text, to)
+            {
                 return to;
             }
-            let (end, ends) = self.after_part(text, at, part, token.span.to);
+            let (end, ends) = self.after_token(text, at, role, token.span.to);
             to = end;
             if ends && let Some(end) = break_at(text, to) {
                 return end;
             }
-            has_number = matches!(part, Part::Value);
+            has_number = matches!(role, TokenRole::Value);
         }
         to
     }
 
     /// The next line.
-    pub fn next_line(&mut self, text: &[u8], at: usize) -> Line
+    pub fn next_line(&mut self, text: &[u8], at: usize) -> ListingLine
         requires { at < length text.now }
         ensures { (at < result.to) × (result.to ≤ length text.now) }
     {
@@ -207,7 +210,7 @@ impl Layout {
             self.stop = self.group_end(text, at);
             told = self.stop;
         }
-        Line {
+        ListingLine {
             margin,
             to: line_end(text, at, self.stop),
             told,

@@ -13,6 +13,6 @@ mod writer;
 pub use laws::source_laws;
 pub use lines::listing;
 pub use placing::beginnings;
-pub use reader::{Mode, SourceFault, commands, ends_line};
+pub use reader::{Mode, ReaderFault, commands, ends_line};
 pub use words::words_of;
 pub use writer::{Note, push_line};

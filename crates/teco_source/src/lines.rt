@@ -3,7 +3,7 @@ ghost use Rattle.std.specs.Prelude.{◌≡◌, ◌<◌, ◌≤◌, length, take,
 ghost use Rattle.teco_source.specs.Source.{start, run, commands_of};
 ghost use Rattle.teco_source.specs.Listing.{line_mode, between};
 
-use crate::layout::{Layout, Line};
+use crate::layout::{Layout, ListingLine};
 use crate::notes::push_words;
 use crate::{Mode, Note, ends_line, push_line, source_laws};
 use std::alloc::Global;
@@ -50,7 +50,7 @@ fn push_part(
     out: &mut Vec<u8>,
     text: &[u8],
     at: usize,
-    line: Line,
+    line: ListingLine,
     words: &[u8],
 ) -> Result<(), NoMemory>
     requires { (at < line.to) × (line.to ≤ length text.now) }

@@ -1,7 +1,7 @@
 //! What the commands of a line do, as its note.
 ghost use Rattle.std.specs.Prelude.{◌≡◌, ◌≤◌, length};
 
-use crate::layout::{Part, part_of};
+use crate::layout::{TokenRole, role_of};
 use crate::words::words_of;
 use teco_core::NoMemory;
 use teco_scan::{Found, Token, TokenKind, token_at};
@@ -32,8 +32,8 @@ pub fn push_words(out: &mut Vec<u8>, text: &[u8], at: usize, to: usize) -> Resul
             return Ok(());
         }
         place = token.span.to;
-        match (part_of(token.kind, has_number), token.kind) {
-            (Part::Value, _) => has_number = true,
+        match (role_of(token.kind, has_number), token.kind) {
+            (TokenRole::Value, _) => has_number = true,
             (_, TokenKind::Tag(_)) => has_number = false,
             _ => {
                 push_token(out, &token, has_number)?;

@@ -33,7 +33,7 @@ pub enum Mode {
 
 /// Why a source is not read.
 #[derive(Clone, Copy, Debug, Drop, Error)]
-pub enum SourceFault {
+pub enum ReaderFault {
     /// The caret at this place stands before what it cannot stand before. The place counts the bytes before it.
     #[error("a caret before what it cannot stand before")]
     Caret(usize),
@@ -42,14 +42,14 @@ pub enum SourceFault {
     Memory,
 }
 
-impl From<NoMemory> for SourceFault {
+impl From<NoMemory> for ReaderFault {
     ghost use Rattle.std.specs.Prelude.{◌≡◌};
-    ghost use Rattle.teco_source.specs.declared.reader.SourceFault.TheVariants.{Memory};
+    ghost use Rattle.teco_source.specs.declared.reader.ReaderFault.TheVariants.{Memory};
 
     ghost from_gives = { λ _ fault. fault ≡ Memory };
 
-    fn from(_: NoMemory) -> SourceFault {
-        SourceFault::Memory
+    fn from(_: NoMemory) -> ReaderFault {
+        ReaderFault::Memory
     }
 }
 
@@ -251,11 +251,11 @@ impl Reader {
     }
 
     /// The bytes that were read, at the end of a source of so many bytes.
-    fn finish(mut self, at: usize) -> Result<Vec<u8>, SourceFault>
+    fn finish(mut self, at: usize) -> Result<Vec<u8>, ReaderFault>
         ensures { IsReadAs (ended (state_of self) at) result }
     {
         let waits = match self.mode {
-            Mode::Caret | Mode::Wrong => return Err(SourceFault::Caret(at.saturating_sub(1))),
+            Mode::Caret | Mode::Wrong => return Err(ReaderFault::Caret(at.saturating_sub(1))),
             Mode::Hash => b'#',
             Mode::Mark => b'!',
             _ => return Ok(self.bytes),
@@ -269,14 +269,14 @@ impl Reader {
 ///
 /// If a caret stands before what it cannot stand before, the fault tells the place of the first such caret: the source is read up
 /// to there, and no further.
-pub fn commands(alloc: Global, source: &[u8]) -> Result<Vec<u8>, SourceFault>
+pub fn commands(alloc: Global, source: &[u8]) -> Result<Vec<u8>, ReaderFault>
     ensures reads { IsReadAs (commands_of source.now) result }
 {
     let mut reader = Reader::new(alloc);
     for (at, byte) in source.iter().enumerate() {
         reader.step(*byte)?;
         if reader.is_wrong() {
-            return Err(SourceFault::Caret(at.saturating_sub(1)));
+            return Err(ReaderFault::Caret(at.saturating_sub(1)));
         }
     }
     reader.finish(source.len())

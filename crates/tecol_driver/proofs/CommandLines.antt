@@ -10,7 +10,7 @@ use Rattle.teco_cli.specs.declared.fault.LineFault.{LineFault}
 use Rattle.teco_cli.specs.declared.fault.LineFault.TheVariants.{NoMemory, Refused}
 use Rattle.teco_cli.proofs.Parses.{told_faulty}
 use Rattle.tecol_driver.specs.CommandLine.{GivesLine, IsTecolError, SayLine, SayNoLine, GivesNoLine, tecol_app}
-use Rattle.tecol_driver.specs.declared.line.Line.{Line}
+use Rattle.tecol_driver.specs.declared.line.TecolLine.{TecolLine}
 
 -- the command is one whose matches the parser's contract says, and no argument has a rule on another
 tecol_is_simple : is_simple tecol_app ≡ true
@@ -44,7 +44,7 @@ module _ (app : App) (is : app ≡ tecol_app) where
     words_taken : fault_of tecol_app words ≡ []
     words_taken = ap (λ a. fault_of a words) (sym is) ∙ fault (ap is_simple_and_free is ∙ tecol_is_free)
 
-    pub line_is : (r : Result Line LineFault) → IfOk r (GivesLine (rows_of (found_of m))) → IfOk r (SayLine words)
+    pub line_is : (r : Result TecolLine LineFault) → IfOk r (GivesLine (rows_of (found_of m))) → IfOk r (SayLine words)
     line_is (Ok line) has = record { taken = words_taken; given = rw (← rows_are) has }
     line_is (Err fault) has = tt
 
@@ -56,6 +56,6 @@ module _ (app : App) (is : app ≡ tecol_app) where
       told = told_faulty refusal.refused_as h.1;
     }
 
-    pub refused_is : (r : Result Line LineFault) → IfErr r (GivesNoLine (rows_of (found_of m))) → IfErr r (SayNoLine words)
+    pub refused_is : (r : Result TecolLine LineFault) → IfErr r (GivesNoLine (rows_of (found_of m))) → IfErr r (SayNoLine words)
     refused_is (Ok line) h = tt
     refused_is (Err fault) h = read_fault_is fault h

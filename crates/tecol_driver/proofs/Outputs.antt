@@ -10,9 +10,9 @@ use Rattle.teco_fs.specs.Writing.{WritesOutput}
 use Rattle.teco_fs.specs.Seen.{DiskSeen}
 use Rattle.teco_io.specs.Terminal.{Puts, Screen}
 use Rattle.tecol_driver.specs.Keeping.{FailsToWrite, MakesAndPuts, Output, PutsOut, fate_put, output_to}
-use Rattle.tecol_driver.specs.declared.fate.Fate.{Fate}
+use Rattle.tecol_driver.specs.declared.fate.TecolFate.{TecolFate}
 use Rattle.tecol_driver.specs.Ending.{IsFateOf}
-use Rattle.tecol_driver.specs.declared.fate.Fate.TheVariants.{Done, Faulty, Unreadable, NoInput, LargeInput, NoMemory, NoOutput}
+use Rattle.tecol_driver.specs.declared.fate.TecolFate.TheVariants.{Done, Faulty, Unreadable, NoInput, LargeInput, NoMemory, NoOutput}
 use Rattle.tecol_driver.specs.declared.made.Made.{Made}
 use Rattle.tecol_driver.specs.declared.made.Made.TheVariants as made
 
@@ -26,18 +26,18 @@ module _ {I T : Type 0} (screen : T → Screen) (name bytes : List ℕ) (before 
       → PutsOut (output_to (is_standard_output name) screen name before after term term) bytes (Ok unkept)
   writes_in unkept writes kept = subst (λ b. PutsOut (output_to b screen name before after term term) bytes (Ok unkept)) (sym off) ((refl, writes), kept)
 
-  pub fails_in : (fate : Fate) → FailsToWrite before after name bytes fate → (output_to (is_standard_output name) screen name before after term term).fails bytes fate
+  pub fails_in : (fate : TecolFate) → FailsToWrite before after name bytes fate → (output_to (is_standard_output name) screen name before after term term).fails bytes fate
   fails_in fate fails = subst (λ b. (output_to b screen name before after term term).fails bytes fate) (sym off) (refl, fails)
 
 -- the output can't be written, for some reason
-abbrev pub IsNoOutput : Fate → Type 0
+abbrev pub IsNoOutput : TecolFate → Type 0
 IsNoOutput fate = (reason : Reason) × (fate ≡ NoOutput reason)
 
 -- an error's fate is want of memory or the other one
-no_other : {error : Error} {other fate : Fate} → IsFateOf error other fate → fate ≢ NoMemory → fate ≢ other → ⊥
+no_other : {error : Error} {other fate : TecolFate} → IsFateOf error other fate → fate ≢ NoMemory → fate ≢ other → ⊥
 no_other f not_memory not_other = not_other (f.other_is (λ memory. not_memory (f.memory memory)))
 
-of_error : {error : Error} {reason : Reason} (fate : Fate) → IsFateOf error (NoOutput reason) fate → (fate ≡ NoMemory) ⊎ IsNoOutput fate
+of_error : {error : Error} {reason : Reason} (fate : TecolFate) → IsFateOf error (NoOutput reason) fate → (fate ≡ NoMemory) ⊎ IsNoOutput fate
 of_error NoMemory is = inl refl
 of_error (NoOutput other) is = inr (other, refl)
 of_error (Done unkept) is = absurd (no_other is (λ e. cc) (λ e. cc))
@@ -47,7 +47,7 @@ of_error (NoInput other) is = absurd (no_other is (λ e. cc) (λ e. cc))
 of_error LargeInput is = absurd (no_other is (λ e. cc) (λ e. cc))
 
 -- how a run ends whose output fails
-pub fails_by : {I T : Type 0} (b : Bool) (screen : T → Screen) (name bytes : List ℕ) (before after : DiskSeen I) (old new : T) (fate : Fate)
+pub fails_by : {I T : Type 0} (b : Bool) (screen : T → Screen) (name bytes : List ℕ) (before after : DiskSeen I) (old new : T) (fate : TecolFate)
     → (output_to b screen name before after old new).fails bytes fate → (fate ≡ NoMemory) ⊎ IsNoOutput fate
 fails_by true screen name bytes before after old new fate f = inr (WriteFailed, f.0.fate_is)
 fails_by false screen name bytes before after old new fate f = of_error fate f.1.fate_is
@@ -66,7 +66,7 @@ module _ (is_made : Made → Type 0) (input : List ℕ) (output : Output) (bytes
   made_so is_faulty (inl (m, is)) = inl m
   made_so is_faulty (inr (m, is)) = inr m
 
-  pub fails : (is_faulty : Bool) (fate : Fate) → Chosen is_made (bytes, is_faulty) → output.fails bytes.items fate → (fate ≡ NoMemory) ⊎ IsNoOutput fate
+  pub fails : (is_faulty : Bool) (fate : TecolFate) → Chosen is_made (bytes, is_faulty) → output.fails bytes.items fate → (fate ≡ NoMemory) ⊎ IsNoOutput fate
       → MakesAndPuts is_made input output fate
   fails is_faulty fate m f (inl is) = subst (MakesAndPuts is_made input output) (sym is) (inr (bytes, made_so is_faulty m, subst (output.fails bytes.items) is f))
   fails is_faulty fate m f (inr is) = subst (MakesAndPuts is_made input output) (sym is.1) (bytes, made_so is_faulty m, subst (output.fails bytes.items) is.1 f)

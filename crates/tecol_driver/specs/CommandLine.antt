@@ -15,9 +15,9 @@ use Rattle.teco_cli.specs.declared.fault.LineFault.{LineFault}
 use Rattle.teco_cli.specs.declared.fault.LineFault.TheVariants as line_fault
 use Rattle.teco_cli.specs.declared.refusal.Refusal.{Refusal}
 use Rattle.teco_cli.specs.declared.refusal.RefusedAs.TheVariants.{Faulty}
-use Rattle.tecol_driver.specs.declared.line.Line.{Line}
-use Rattle.tecol_driver.specs.declared.line.Mode.{Mode}
-use Rattle.tecol_driver.specs.declared.line.Mode.TheVariants.{Bytes, Listing, Again, CheckSource, CheckBytes}
+use Rattle.tecol_driver.specs.declared.line.TecolLine.{TecolLine}
+use Rattle.tecol_driver.specs.declared.line.TecolMode.{TecolMode}
+use Rattle.tecol_driver.specs.declared.line.TecolMode.TheVariants.{Bytes, Listing, Again, CheckSource, CheckBytes}
 
 -- FILE: any text, if it is there
 abbrev pub file_rule : Rule
@@ -36,7 +36,7 @@ abbrev pub tecol_app : App
 tecol_app = with_rules (with_version (new_app (codes "tecol"))) tecol_rules
 
 -- what is made where these flags are up: --reverse, --words and --check
-abbrev pub mode_by : Bool → Bool → Bool → Mode
+abbrev pub mode_by : Bool → Bool → Bool → TecolMode
 mode_by true words true = CheckBytes
 mode_by false words true = CheckSource
 mode_by true words false = Listing
@@ -48,7 +48,7 @@ abbrev pub IsFlag : List Row → Text → Bool → Type 0
 IsFlag rows id up = IsTrue up ↔ (one_of id rows ≡ Some (codes "true"))
 
 -- The line has what a parse gives for each argument; a name that isn't given is that of a standard stream.
-pub record GivesLine (rows : List Row) (line : Line) : Type 0 where
+pub record GivesLine (rows : List Row) (line : TecolLine) : Type 0 where
   pub reverse : Bool
   pub check : Bool
   pub reverse_is : IsFlag rows (codes "reverse") reverse
@@ -61,7 +61,7 @@ pub record GivesLine (rows : List Row) (line : Line) : Type 0 where
   pub output : string_bytes line.output ≡ unwrap_or (first_of (codes "output") rows) (codes "-")
 
 -- The line is what these words say, the program's name first: the parser takes them, and the line has what their parse gives.
-pub record SayLine (words : List Text) (line : Line) : Type 0 where
+pub record SayLine (words : List Text) (line : TecolLine) : Type 0 where
   pub taken : fault_of tecol_app words ≡ []
   pub given : GivesLine (matches_of tecol_app words) line
 
@@ -94,7 +94,7 @@ SayNoLine words line_fault.NoMemory = ⊤
 SayNoLine words (line_fault.Refused refusal) = IsRefusedLine words refusal
 
 -- The words, where they were given, say this line.
-abbrev pub SayLineIn : Result (Vec (String Global) Global) LineFault → Line → Type 0
+abbrev pub SayLineIn : Result (Vec (String Global) Global) LineFault → TecolLine → Type 0
 SayLineIn (Ok words) line = SayLine (map string_bytes words.items) line
 SayLineIn (Err fault) line = ⊥
 

@@ -13,9 +13,9 @@ use Rattle.teco_fs.specs.declared.reason.Reason.TheVariants.{ReadFailed}
 use Rattle.teco_messages.specs.Shown.{spot_shown}
 use Rattle.teco_messages.specs.Spot.{spot_of}
 use Rattle.teco_messages.specs.declared.spot.Spot.{Spot}
-use Rattle.tecol_driver.specs.declared.fate.Fate.{Fate}
-use Rattle.tecol_driver.specs.declared.fate.Fate.TheVariants.{Done, Faulty, Unreadable, NoInput, LargeInput, NoMemory, NoOutput}
-use Rattle.tecol_driver.specs.declared.line.Line.{Line}
+use Rattle.tecol_driver.specs.declared.fate.TecolFate.{TecolFate}
+use Rattle.tecol_driver.specs.declared.fate.TecolFate.TheVariants.{Done, Faulty, Unreadable, NoInput, LargeInput, NoMemory, NoOutput}
+use Rattle.tecol_driver.specs.declared.line.TecolLine.{TecolLine}
 
 -- the status of a run whose output is written: this one, or 1 if text is lost with what could not be kept
 abbrev pub status_put : ℕ → Option Unkept → ℕ
@@ -23,20 +23,20 @@ status_put status None = status
 status_put status (Some unkept) = if is_text unkept then 1 else status
 
 -- 2 where a fault was found or a source can't be read, 1 where anything failed
-abbrev pub status_of : Fate → ℕ
+abbrev pub status_of : TecolFate → ℕ
 status_of (Done unkept) = status_put 0 unkept
 status_of (Faulty unkept) = status_put 2 unkept
 status_of (Unreadable spot) = 2
 status_of fate = 1
 
 -- how a run ends where the input is not read
-abbrev pub fate_without_input : InputFault → Fate
+abbrev pub fate_without_input : InputFault → TecolFate
 fate_without_input input.Read = NoInput ReadFailed
 fate_without_input input.TooLarge = LargeInput
 fate_without_input input.Memory = NoMemory
 
 -- The fate of an error: want of memory where the error is that, otherwise the other one.
-pub record IsFateOf (error : Error) (other fate : Fate) : Type 0 where
+pub record IsFateOf (error : Error) (other fate : TecolFate) : Type 0 where
   pub memory : error_kind error ≡ OutOfMemory → fate ≡ NoMemory
   pub other_is : error_kind error ≢ OutOfMemory → fate ≡ other
 
@@ -54,12 +54,12 @@ unreadable input spot = input ++ codes ":" ++ spot_shown spot
     ++ codes ": a caret before what it cannot stand before" ++ 10 ∷ []
 
 -- what is told of an output that is written: what could not be kept, or nothing
-abbrev pub kept_text : Line → Option Unkept → List ℕ
+abbrev pub kept_text : TecolLine → Option Unkept → List ℕ
 kept_text line None = []
 kept_text line (Some unkept) = said (string_bytes line.output ++ codes ": " ++ unkept_words unkept)
 
 -- what is told of a fate: a line, or nothing
-abbrev pub text_of : Line → Fate → List ℕ
+abbrev pub text_of : TecolLine → TecolFate → List ℕ
 text_of line (Done unkept) = kept_text line unkept
 text_of line (Faulty unkept) = kept_text line unkept
 text_of line (Unreadable spot) = unreadable (string_bytes line.input) spot
@@ -69,7 +69,7 @@ text_of line NoMemory = said (codes "no memory")
 text_of line (NoOutput reason) = said (with_reason (codes "cannot write ") (string_bytes line.output) reason)
 
 -- A line is told of it.
-abbrev pub is_told : Fate → Bool
+abbrev pub is_told : TecolFate → Bool
 is_told (Done unkept) = is_some unkept
 is_told (Faulty unkept) = is_some unkept
 is_told fate = true

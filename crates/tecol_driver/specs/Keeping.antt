@@ -22,40 +22,40 @@ use Rattle.teco_fs.specs.Writing.{WritesOutput, AddsDrafts, IsWriteError, IsWrit
 use Rattle.teco_io.specs.Terminal.{IsFrontOf, Screen, Shows}
 use Rattle.tecol_driver.specs.Ending.{IsFateOf, fate_without_input, is_told, said, spot_in, status_of, text_of}
 use Rattle.tecol_driver.specs.Made.{IsMade}
-use Rattle.tecol_driver.specs.declared.fate.Fate.{Fate}
-use Rattle.tecol_driver.specs.declared.fate.Fate.TheVariants.{Done, Faulty, Unreadable, NoInput, LargeInput, NoMemory, NoOutput}
-use Rattle.tecol_driver.specs.declared.line.Line.{Line}
-use Rattle.tecol_driver.specs.declared.line.Mode.{Mode}
+use Rattle.tecol_driver.specs.declared.fate.TecolFate.{TecolFate}
+use Rattle.tecol_driver.specs.declared.fate.TecolFate.TheVariants.{Done, Faulty, Unreadable, NoInput, LargeInput, NoMemory, NoOutput}
+use Rattle.tecol_driver.specs.declared.line.TecolLine.{TecolLine}
+use Rattle.tecol_driver.specs.declared.line.TecolMode.{TecolMode}
 use Rattle.tecol_driver.specs.declared.made.Made.{Made}
 use Rattle.tecol_driver.specs.declared.made.Made.TheVariants as made
 
 -- The source was read, and that ended by a fault.
-pub record FailsToStream {S : Type 0} (source : SourceView S) (old new : S) (fate : Fate) : Type 0 where
+pub record FailsToStream {S : Type 0} (source : SourceView S) (old new : S) (fate : TecolFate) : Type 0 where
   pub fault : InputFault
   pub fault_is : IsFaultOf FILE_LIMIT (Gives source.coming source.bound source.failures old new) fault
   pub fate_is : fate ≡ fate_without_input fault
 
 -- The disk refused to open the file, by an error whose reason the fate has.
-pub record FailsToOpen (gave : Error → Type 0) (fate : Fate) : Type 0 where
+pub record FailsToOpen (gave : Error → Type 0) (fate : TecolFate) : Type 0 where
   pub error : Error
   pub given : gave error
   pub fate_is : IsFateOf error (NoInput (reason_of (error_kind error))) fate
 
 -- What the disk opened under the name was read, and that ended by a fault.
 pub record FailsToRead {I : Type 0} (input : SourceView I) (files : Option Files) (name : List ℕ)
-    (fate : Fate) : Type 0 where
+    (fate : TecolFate) : Type 0 where
   pub first : I
   pub last : I
   pub opened : Opens files name (input.coming first)
   pub fails : FailsToStream input first last fate
 
 -- Why a file is not the input.
-abbrev pub LacksInput : {I : Type 0} → DiskSeen I → DiskSeen I → List ℕ → Fate → Type 0
+abbrev pub LacksInput : {I : Type 0} → DiskSeen I → DiskSeen I → List ℕ → TecolFate → Type 0
 LacksInput old new name fate = FailsToOpen new.gave fate ⊎ FailsToRead new.input old.files name fate
 
 -- All that the stream has, or all that the file of this name has, is the input.
 abbrev pub ReadsInput : {I S : Type 0} → Bool → SourceView S → List ℕ → DiskSeen I → DiskSeen I → S → S
-    → Result (Vec ℕ Global) Fate → Type 0
+    → Result (Vec ℕ Global) TecolFate → Type 0
 ReadsInput true stream name before after old new (Ok input) = IsStreamed stream old new input.items
 ReadsInput true stream name before after old new (Err fate) = FailsToStream stream old new fate
 ReadsInput false stream name before after old new (Ok input) = IsInput before.files name input.items
@@ -63,7 +63,7 @@ ReadsInput false stream name before after old new (Err fate) = LacksInput before
 
 -- The output file is as it was; and at each moment it was so, or had these bytes. The fate is that of the error,
 -- and has its reason.
-pub record FailsToWrite {I : Type 0} (old new : DiskSeen I) (name bytes : List ℕ) (fate : Fate) : Type 0 where
+pub record FailsToWrite {I : Type 0} (old new : DiskSeen I) (name bytes : List ℕ) (fate : TecolFate) : Type 0 where
   pub files : Changes old.files new.files (AddsDrafts name)
   pub streams : SameBut name old.streams new.streams
   pub moments : Passes old.files old.left new.left (IsWriting name bytes)
@@ -72,7 +72,7 @@ pub record FailsToWrite {I : Type 0} (old new : DiskSeen I) (name bytes : List �
   pub fate_is : IsFateOf error (NoOutput (reason_of (error_kind error))) fate
 
 -- A beginning of the bytes was put, and then the terminal failed, which doesn't tell why.
-pub record FailsToPut (old new : Screen) (bytes : List ℕ) (fate : Fate) : Type 0 where
+pub record FailsToPut (old new : Screen) (bytes : List ℕ) (fate : TecolFate) : Type 0 where
   pub front : List ℕ
   pub beginning : IsFrontOf front bytes
   pub shows : Shows old new front true
@@ -85,7 +85,7 @@ pub record Output : Type 1 where
   -- these bytes were written whole
   pub writes : List ℕ → Type 0
   -- these bytes could not be written: why, by how the run ends
-  pub fails : List ℕ → Fate → Type 0
+  pub fails : List ℕ → TecolFate → Type 0
   -- this could not be kept of the file that was written over
   pub unkept : Option Unkept → Type 0
 
@@ -106,27 +106,27 @@ output_to false screen name before after old new = record {
 }
 
 -- where the output of a line goes
-abbrev pub output_of : {I T : Type 0} → (T → Screen) → Line → DiskSeen I → DiskSeen I → T → T → Output
+abbrev pub output_of : {I T : Type 0} → (T → Screen) → TecolLine → DiskSeen I → DiskSeen I → T → T → Output
 output_of screen line before after old new =
     output_to (is_standard_output (string_bytes line.output)) screen (string_bytes line.output) before after old new
 
 -- The bytes were written, and this could not be kept of a file that was written over; or that failed.
-abbrev pub PutsOut : Output → List ℕ → Result (Option Unkept) Fate → Type 0
+abbrev pub PutsOut : Output → List ℕ → Result (Option Unkept) TecolFate → Type 0
 PutsOut output bytes (Ok unkept) = output.writes bytes × output.unkept unkept
 PutsOut output bytes (Err fate) = output.fails bytes fate
 
 -- how a run ends whose output is written, if a check found a fault or not
-abbrev pub fate_put : Bool → Option Unkept → Fate
+abbrev pub fate_put : Bool → Option Unkept → TecolFate
 fate_put true unkept = Faulty unkept
 fate_put false unkept = Done unkept
 
 -- What was made was to be written, and that failed so.
-abbrev pub FailsWith : (Made → Type 0) → Output → Fate → Type 0
+abbrev pub FailsWith : (Made → Type 0) → Output → TecolFate → Type 0
 FailsWith is_made output fate =
     (bytes : Vec ℕ Global) × (is_made (made.Fine bytes) ⊎ is_made (made.Faulty bytes)) × output.fails bytes.items fate
 
 -- How a run ends over an input that was read, and what it has done then.
-abbrev pub MakesAndPuts : (Made → Type 0) → List ℕ → Output → Fate → Type 0
+abbrev pub MakesAndPuts : (Made → Type 0) → List ℕ → Output → TecolFate → Type 0
 -- what was made is written whole, and this could not be kept of a file that was written over
 MakesAndPuts is_made input output (Done unkept) =
     (bytes : Vec ℕ Global) × is_made (made.Fine bytes) × output.writes bytes.items × output.unkept unkept
@@ -143,7 +143,7 @@ MakesAndPuts is_made input output NoMemory = output.keeps ⊎ FailsWith is_made 
 MakesAndPuts is_made input output (NoOutput reason) = FailsWith is_made output (NoOutput reason)
 
 -- The input was read, and the run ends by what was made of it; or it was not read, and nothing is written.
-abbrev pub EndsAfter : Mode → Result (Vec ℕ Global) Fate → Output → Fate → Type 0
+abbrev pub EndsAfter : TecolMode → Result (Vec ℕ Global) TecolFate → Output → TecolFate → Type 0
 EndsAfter mode (Ok input) output fate = MakesAndPuts (IsMade mode input.items) input.items output fate
 EndsAfter mode (Err lack) output fate = (fate ≡ lack) × output.keeps
 
@@ -157,14 +157,14 @@ abbrev pub view_of : {D I S T : Type 0} → (D → DiskSeen I) → SourceView S 
 view_of disk stream screen = record { disk = disk; stream = stream; screen = screen }
 
 -- A run over a line: its input is read, by which no file changes, and what is made of it is written.
-pub record RunsOver {D I S T : Type 0} (view : View D I S T) (line : Line) (old new : Host D S T)
-    (fate : Fate) : Type 0 where
+pub record RunsOver {D I S T : Type 0} (view : View D I S T) (line : TecolLine) (old new : Host D S T)
+    (fate : TecolFate) : Type 0 where
   -- the disk once the input is read
   pub mid : D
   pub idle : KeepsDisk (view.disk old.disk) (view.disk mid)
   -- what comes on standard input stays as it is, unless the input comes from there
   pub still : KeepsStream (string_bytes line.input) old new
-  pub input : Result (Vec ℕ Global) Fate
+  pub input : Result (Vec ℕ Global) TecolFate
   pub reads : ReadsInput (is_standard_input (string_bytes line.input)) view.stream (string_bytes line.input)
       (view.disk old.disk) (view.disk mid) old.stream new.stream input
   pub ends : EndsAfter line.mode input
@@ -172,13 +172,13 @@ pub record RunsOver {D I S T : Type 0} (view : View D I S T) (line : Line) (old 
 
 -- The line of the fate is told on standard error, and the status is that of the fate. Or memory is refused for the
 -- line, where there is one: that is told, and the status is 1.
-abbrev pub Concludes : Line → Fate → Screen → Screen → ℕ → Type 0
+abbrev pub Concludes : TecolLine → TecolFate → Screen → Screen → ℕ → Type 0
 Concludes line fate old new status = ((status ≡ status_of fate) × Tells old new (text_of line fate))
     ⊎ ((is_told fate ≡ true) × (status ≡ 1) × Tells old new (said (codes "no memory")))
 
 -- A run over a line, which is told.
-pub record Keeps {D I S T E : Type 0} (view : View D I S T) (errors : E → Screen) (line : Line)
+pub record Keeps {D I S T E : Type 0} (view : View D I S T) (errors : E → Screen) (line : TecolLine)
     (old new : Host D S T) (told telling : E) (status : ℕ) : Type 0 where
-  pub fate : Fate
+  pub fate : TecolFate
   pub run : RunsOver view line old new fate
   pub end : Concludes line fate (errors told) (errors telling) status

@@ -1,7 +1,7 @@
 -- What a run makes of its input.
 use Rattle.std.specs.Prelude.{◌≡◌, ℕ, Bool, true, false, List, Ok, Err}
-use Rattle.tecol_driver.specs.declared.line.Mode.{Mode}
-use Rattle.tecol_driver.specs.declared.line.Mode.TheVariants.{Listing, Again, CheckSource, CheckBytes}
+use Rattle.tecol_driver.specs.declared.line.TecolMode.{TecolMode}
+use Rattle.tecol_driver.specs.declared.line.TecolMode.TheVariants.{Listing, Again, CheckSource, CheckBytes}
 use Rattle.tecol_driver.specs.declared.made.Made.{Made}
 use Rattle.tecol_driver.specs.declared.made.Made.TheVariants.{Fine, Faulty, Unreadable}
 use Rattle.teco_source.specs.Source.{commands_of}
@@ -29,18 +29,18 @@ IsListing bytes (Fine source) = commands_of source.items ≡ Ok bytes
 IsListing bytes made = ⊥
 
 -- What is made of a source that stands for these commands.
-abbrev pub IsMadeOf : Mode → List ℕ → Made → Type 0
+abbrev pub IsMadeOf : TecolMode → List ℕ → Made → Type 0
 IsMadeOf CheckSource commands made = IsVerdict commands made
 IsMadeOf Again commands made = IsListing commands made
 IsMadeOf mode commands made = IsBytes commands made
 
 -- A source is read, and what is made is made of its commands; or it can't be read, and the place of a caret is told.
-abbrev pub IsMadeOfSource : Mode → List ℕ → Made → Type 0
+abbrev pub IsMadeOfSource : TecolMode → List ℕ → Made → Type 0
 IsMadeOfSource mode source (Unreadable at) = commands_of source ≡ Err at
 IsMadeOfSource mode source made = (commands : List ℕ) × ((commands_of source ≡ Ok commands) × IsMadeOf mode commands made)
 
 -- What a run makes of its input.
-abbrev pub IsMade : Mode → List ℕ → Made → Type 0
+abbrev pub IsMade : TecolMode → List ℕ → Made → Type 0
 IsMade Listing input made = IsListing input made
 IsMade CheckBytes input made = IsVerdict input made
 IsMade mode input made = IsMadeOfSource mode input made

@@ -10,12 +10,12 @@ use Rattle.teco_io.specs.Terminal.{Screen}
 use Rattle.tecol_driver.specs.CommandLine.{SayNoLineIn, SayLineIn}
 use Rattle.tecol_driver.specs.Ending.{said}
 use Rattle.tecol_driver.specs.Keeping.{Keeps, View}
-use Rattle.tecol_driver.specs.declared.line.Line.{Line}
+use Rattle.tecol_driver.specs.declared.line.TecolLine.{TecolLine}
 
 -- The words say a line, and the run is that over it.
 pub record KeepsLine {D I S T E : Type 0} (view : View D I S T) (errors : E → Screen)
     (words : Result (Vec (String Global) Global) LineFault) (old new : Host D S T) (told telling : E) (status : ℕ) : Type 0 where
-  pub line : Line
+  pub line : TecolLine
   pub line_is : SayLineIn words line
   pub run : Keeps view errors line old new told telling status
 

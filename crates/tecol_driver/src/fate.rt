@@ -3,7 +3,7 @@ ghost use Rattle.std.specs.Prelude.{◌≡◌};
 ghost use Rattle.std.specs.IoError.{error_kind};
 ghost use Rattle.teco_fs.specs.Reasons.{reason_of};
 ghost use Rattle.tecol_driver.specs.Ending.{IsFateOf, status_of, status_put};
-ghost use Rattle.tecol_driver.specs.declared.fate.Fate.TheVariants.{NoInput, NoOutput};
+ghost use Rattle.tecol_driver.specs.declared.fate.TecolFate.TheVariants.{NoInput, NoOutput};
 
 use std::io;
 use std::io::ErrorKind;
@@ -13,7 +13,7 @@ use teco_messages::Spot;
 
 /// How a run ends, once its command line is read.
 #[derive(Clone, Copy)]
-pub enum Fate {
+pub enum TecolFate {
     /// What was made is written, but this could not be kept of the file whose place it takes.
     Done(Option<Unkept>),
     /// So are the lines of a check that found a fault.
@@ -30,42 +30,42 @@ pub enum Fate {
     NoOutput(Reason),
 }
 
-impl From<InputFault> for Fate {
+impl From<InputFault> for TecolFate {
     ghost use Rattle.tecol_driver.specs.Ending.{fate_without_input};
 
     ghost from_gives = { λ fault fate. fate ≡ fate_without_input fault };
 
-    fn from(fault: InputFault) -> Fate {
+    fn from(fault: InputFault) -> TecolFate {
         match fault {
-            InputFault::Read => Fate::NoInput(Reason::ReadFailed),
-            InputFault::TooLarge => Fate::LargeInput,
-            InputFault::Memory => Fate::NoMemory,
+            InputFault::Read => TecolFate::NoInput(Reason::ReadFailed),
+            InputFault::TooLarge => TecolFate::LargeInput,
+            InputFault::Memory => TecolFate::NoMemory,
         }
     }
 }
 
 /// How a run ends at an error of the system: by want of memory where the error is that, otherwise as given.
-fn fate_of(error: io::Error, other: Fate) -> Fate
+fn fate_of(error: io::Error, other: TecolFate) -> TecolFate
     ensures { IsFateOf error other result }
 {
     match error.kind() {
-        ErrorKind::OutOfMemory => Fate::NoMemory,
+        ErrorKind::OutOfMemory => TecolFate::NoMemory,
         _ => other,
     }
 }
 
 /// How a run ends where the input can't be opened.
-pub fn no_input(error: io::Error) -> Fate
+pub fn no_input(error: io::Error) -> TecolFate
     ensures { IsFateOf error (NoInput (reason_of (error_kind error))) result }
 {
-    fate_of(error, Fate::NoInput(reason_of(error)))
+    fate_of(error, TecolFate::NoInput(reason_of(error)))
 }
 
 /// How it ends where the output can't be written.
-pub fn no_output(error: io::Error) -> Fate
+pub fn no_output(error: io::Error) -> TecolFate
     ensures { IsFateOf error (NoOutput (reason_of (error_kind error))) result }
 {
-    fate_of(error, Fate::NoOutput(reason_of(error)))
+    fate_of(error, TecolFate::NoOutput(reason_of(error)))
 }
 
 /// The status of a run whose output is written: this one, or 1 if text is lost with what could not be kept.
@@ -79,13 +79,13 @@ fn status_put(status: u8, unkept: Option<Unkept>) -> u8
 }
 
 /// The status: 2 where a fault was found or a source can't be read, 1 where anything failed, otherwise 0.
-pub fn status(fate: Fate) -> u8
+pub fn status(fate: TecolFate) -> u8
     ensures { result ≡ status_of fate }
 {
     match fate {
-        Fate::Done(unkept) => status_put(0, unkept),
-        Fate::Faulty(unkept) => status_put(2, unkept),
-        Fate::Unreadable(_) => 2,
+        TecolFate::Done(unkept) => status_put(0, unkept),
+        TecolFate::Faulty(unkept) => status_put(2, unkept),
+        TecolFate::Unreadable(_) => 2,
         _ => 1,
     }
 }

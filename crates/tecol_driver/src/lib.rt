@@ -9,7 +9,7 @@ mod reading;
 mod running;
 mod telling;
 
-pub use line::{Line, Mode};
+pub use line::{TecolLine, TecolMode};
 pub use made::{Made, make};
 pub use parsing::{line_of, not_text};
 pub use running::{keep, program};

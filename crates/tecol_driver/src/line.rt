@@ -2,7 +2,7 @@
 
 /// What a run makes of its input.
 #[derive(Clone, Copy)]
-pub enum Mode {
+pub enum TecolMode {
     /// The bytes that a source stands for.
     Bytes,
     /// A listing of bytes.
@@ -17,12 +17,12 @@ pub enum Mode {
 
 /// What the command line says.
 #[derive(Drop)]
-pub struct Line {
+pub struct TecolLine {
     /// The name of the input; `-` is standard input.
     pub input: String,
     /// The name of the output; `-` is standard output.
     pub output: String,
-    pub mode: Mode,
+    pub mode: TecolMode,
     /// Whether a listing has words.
     pub words: bool,
 }

@@ -2,11 +2,11 @@
 ghost use Rattle.std.specs.Prelude.{◌≡◌, IfOk};
 ghost use Rattle.tecol_driver.specs.Made.{IsMade, IsMadeOf, IsMadeOfSource, IsVerdict};
 
-use crate::line::{Line, Mode};
+use crate::line::{TecolLine, TecolMode};
 use std::alloc::Global;
 use teco_core::NoMemory;
 use teco_lint::{check, report};
-use teco_source::{SourceFault, beginnings, commands, listing};
+use teco_source::{ReaderFault, beginnings, commands, listing};
 
 /// What was made.
 #[derive(Drop)]
@@ -41,40 +41,40 @@ fn check_in(
 /// What is made of a source that stands for these commands.
 fn make_of_commands(
     alloc: Global,
-    line: &Line,
+    line: &TecolLine,
     source: &[u8],
     bytes: Vec<u8>,
 ) -> Result<Made, NoMemory>
     ensures { IfOk result (IsMadeOf line.now.mode bytes.items) }
 {
     match line.mode {
-        Mode::CheckSource => {
+        TecolMode::CheckSource => {
             let places = beginnings(alloc, source)?;
             check_in(alloc, line.input.as_str(), source, Some(&places), &bytes)
         }
-        Mode::Again => Ok(Made::Fine(listing(alloc, &bytes, line.words)?)),
+        TecolMode::Again => Ok(Made::Fine(listing(alloc, &bytes, line.words)?)),
         _ => Ok(Made::Fine(bytes)),
     }
 }
 
 /// What is made of a source.
-fn make_of_source(alloc: Global, line: &Line, source: &[u8]) -> Result<Made, NoMemory>
+fn make_of_source(alloc: Global, line: &TecolLine, source: &[u8]) -> Result<Made, NoMemory>
     ensures { IfOk result (IsMadeOfSource line.now.mode source.now) }
 {
     match commands(alloc, source) {
         Ok(bytes) => make_of_commands(alloc, line, source, bytes),
-        Err(SourceFault::Caret(at)) => Ok(Made::Unreadable(at)),
-        Err(SourceFault::Memory) => Err(NoMemory),
+        Err(ReaderFault::Caret(at)) => Ok(Made::Unreadable(at)),
+        Err(ReaderFault::Memory) => Err(NoMemory),
     }
 }
 
 /// What the line asks to be made of an input.
-pub fn make(alloc: Global, line: &Line, input: &[u8]) -> Result<Made, NoMemory>
+pub fn make(alloc: Global, line: &TecolLine, input: &[u8]) -> Result<Made, NoMemory>
     ensures { IfOk result (IsMade line.now.mode input.now) }
 {
     match line.mode {
-        Mode::Listing => Ok(Made::Fine(listing(alloc, input, line.words)?)),
-        Mode::CheckBytes => check_in(alloc, line.input.as_str(), input, None, input),
+        TecolMode::Listing => Ok(Made::Fine(listing(alloc, input, line.words)?)),
+        TecolMode::CheckBytes => check_in(alloc, line.input.as_str(), input, None, input),
         _ => make_of_source(alloc, line, input),
     }
 }

@@ -6,7 +6,7 @@ ghost use Rattle.tecol_driver.specs.CommandLine.{GivesLine, SayLine, SayNoLine, 
 ghost use Rattle.teco_cli.specs.OptionTable.{rule_by};
 ghost use Rattle.teco_cli.specs.Refusals.{IsFaulty};
 
-use crate::line::{Line, Mode};
+use crate::line::{TecolLine, TecolMode};
 use clap::ArgMatches;
 use std::alloc::Global;
 use teco_cli::{LineFault, OptionRow, Program, Refusal, Takes, faulty, flag_at, parsed};
@@ -95,20 +95,20 @@ fn text_at(alloc: Global, matches: &ArgMatches, name: &str) -> Result<String, No
 }
 
 /// What is made by these flags.
-fn mode_by(reverse: bool, words: bool, check: bool) -> Mode
+fn mode_by(reverse: bool, words: bool, check: bool) -> TecolMode
     ensures { result ≡ mode_by reverse words check }
 {
     match (check, reverse, words) {
-        (true, true, _) => Mode::CheckBytes,
-        (true, false, _) => Mode::CheckSource,
-        (false, true, _) => Mode::Listing,
-        (false, false, true) => Mode::Again,
-        (false, false, false) => Mode::Bytes,
+        (true, true, _) => TecolMode::CheckBytes,
+        (true, false, _) => TecolMode::CheckSource,
+        (false, true, _) => TecolMode::Listing,
+        (false, false, true) => TecolMode::Again,
+        (false, false, false) => TecolMode::Bytes,
     }
 }
 
 /// The line that a parse gives.
-fn line_in<'a>(alloc: Global, matches: &ArgMatches<'a>) -> Result<Line, LineFault>
+fn line_in<'a>(alloc: Global, matches: &ArgMatches<'a>) -> Result<TecolLine, LineFault>
     ensures line { IfOk result (GivesLine (rows_of (found_of matches.now))) }
     ensures refused { IfErr result (GivesNoLine (rows_of (found_of matches.now))) }
 {
@@ -119,7 +119,7 @@ fn line_in<'a>(alloc: Global, matches: &ArgMatches<'a>) -> Result<Line, LineFaul
         let why = "the argument '--check' cannot be used with '--words'";
         return Err(LineFault::Refused(faulty(alloc, why, USAGE)?));
     }
-    Ok(Line {
+    Ok(TecolLine {
         input: text_at(alloc, matches, "input")?,
         output: text_at(alloc, matches, "output")?,
         mode: mode_by(reverse, words, check),
@@ -128,7 +128,7 @@ fn line_in<'a>(alloc: Global, matches: &ArgMatches<'a>) -> Result<Line, LineFaul
 }
 
 /// What the words say, the program's name first: `tecol [OPTIONS] [FILE]`.
-pub fn line_of(alloc: Global, words: &[String]) -> Result<Line, LineFault>
+pub fn line_of(alloc: Global, words: &[String]) -> Result<TecolLine, LineFault>
     ensures line { IfOk result (SayLine (map string_bytes words.now)) }
     ensures refused { IfErr result (SayNoLine (map string_bytes words.now)) }
 {

@@ -4,14 +4,14 @@ ghost use Rattle.tecol_driver.specs.Keeping.{FailsToStream, LacksInput};
 ghost use Rattle.teco_fs.specs.Reading.{IsInput, IsStreamed};
 ghost use Rattle.teco_fs.specs.Seen.{KeepsDisk, disk_seen};
 
-use crate::fate::{Fate, no_input};
+use crate::fate::{TecolFate, no_input};
 use std::alloc::Global;
 use teco_core::FILE_LIMIT;
 use teco_fs::Disk;
 use teco_io::{Source, read_input};
 
 /// Reads a file whole.
-pub fn input_of_file<D: Disk>(alloc: Global, name: &str, disk: &mut D) -> Result<Vec<u8>, Fate>
+pub fn input_of_file<D: Disk>(alloc: Global, name: &str, disk: &mut D) -> Result<Vec<u8>, TecolFate>
     ensures input { IfOk result (λ input. IsInput (D.files disk.old) name.now input.items) }
     ensures fault { let seen = disk_seen D.Disk D.Input.Source in
         IfErr result (LacksInput (seen disk.old) (seen disk.new) name.now) }
@@ -25,11 +25,11 @@ pub fn input_of_file<D: Disk>(alloc: Global, name: &str, disk: &mut D) -> Result
 }
 
 /// Reads standard input to its end.
-pub fn input_of_stream<S: Source>(alloc: Global, stream: &mut S) -> Result<Vec<u8>, Fate>
+pub fn input_of_stream<S: Source>(alloc: Global, stream: &mut S) -> Result<Vec<u8>, TecolFate>
     ensures input { IfOk result (λ input. IsStreamed S.Source
         stream.old stream.new input.items) }
     ensures fault { IfErr result (FailsToStream S.Source
         stream.old stream.new) }
 {
-    read_input(alloc, stream, FILE_LIMIT).map_err(Fate::from)
+    read_input(alloc, stream, FILE_LIMIT).map_err(TecolFate::from)
 }

@@ -10,8 +10,8 @@ ghost use Rattle.tecol_driver.specs.Program.{KeepsBy};
 ghost use Rattle.teco_fs.specs.Refusing.{Tells};
 ghost use Rattle.teco_fs.specs.Seen.{KeepsDisk, host, disk_seen};
 
-use crate::fate::{Fate, no_output, status};
-use crate::line::Line;
+use crate::fate::{TecolFate, no_output, status};
+use crate::line::TecolLine;
 use crate::made::{Made, make};
 use crate::parsing::line_of;
 use crate::reading::{input_of_file, input_of_stream};
@@ -32,7 +32,7 @@ fn input_of<S: Source, D: Disk>(
     name: &str,
     stream: &mut S,
     disk: &mut D,
-) -> Result<Vec<u8>, Fate>
+) -> Result<Vec<u8>, TecolFate>
     ensures reads { let seen = disk_seen D.Disk D.Input.Source in
         ReadsInput (is_standard_input name.now) S.Source name.now
         (seen disk.old) (seen disk.new) stream.old stream.new result }
@@ -50,12 +50,12 @@ fn input_of<S: Source, D: Disk>(
 /// was. Says what could not be kept of a file that was written over, or how that ended, if it failed.
 fn put<T: Terminal, D: Disk>(
     alloc: Global,
-    line: &Line,
+    line: &TecolLine,
     number: u32,
     bytes: &[u8],
     term: &mut T,
     disk: &mut D,
-) -> Result<Option<Unkept>, Fate>
+) -> Result<Option<Unkept>, TecolFate>
     ensures { let seen = disk_seen D.Disk D.Input.Source in
         PutsOut (output_of T.screen line.now (seen disk.old) (seen disk.new) term.old term.new) bytes.now result }
 {
@@ -63,7 +63,7 @@ fn put<T: Terminal, D: Disk>(
     if is_standard_output(name) {
         return match term.put(bytes) {
             Ok(()) => Ok(None),
-            Err(TerminalFault) => Err(Fate::NoOutput(Reason::WriteFailed)),
+            Err(TerminalFault) => Err(TecolFate::NoOutput(Reason::WriteFailed)),
         };
     }
     match write_output(alloc, disk, name, number, None, (bytes, &[])) {
@@ -75,24 +75,24 @@ fn put<T: Terminal, D: Disk>(
 }
 
 /// How the run ends whose output is written, if a check found a fault or not, and if this could not be kept.
-fn fate_put(is_faulty: bool, unkept: Option<Unkept>) -> Fate
+fn fate_put(is_faulty: bool, unkept: Option<Unkept>) -> TecolFate
     ensures { result ≡ fate_put is_faulty unkept }
 {
     if is_faulty {
-        return Fate::Faulty(unkept);
+        return TecolFate::Faulty(unkept);
     }
-    Fate::Done(unkept)
+    TecolFate::Done(unkept)
 }
 
 /// Makes of the input what the line says, and writes it.
 fn make_and_put<T: Terminal, D: Disk>(
     alloc: Global,
-    line: &Line,
+    line: &TecolLine,
     number: u32,
     input: &[u8],
     term: &mut T,
     disk: &mut D,
-) -> Fate
+) -> TecolFate
     ensures { let seen = disk_seen D.Disk D.Input.Source in
         MakesAndPuts (IsMade line.now.mode input.now) input.now
         (output_of T.screen line.now (seen disk.old) (seen disk.new) term.old term.new) result }
@@ -100,8 +100,8 @@ fn make_and_put<T: Terminal, D: Disk>(
     let (bytes, is_faulty) = match make(alloc, line, input) {
         Ok(Made::Fine(bytes)) => (bytes, false),
         Ok(Made::Faulty(bytes)) => (bytes, true),
-        Ok(Made::Unreadable(at)) => return Fate::Unreadable(spot_in(input, at)),
-        Err(NoMemory) => return Fate::NoMemory,
+        Ok(Made::Unreadable(at)) => return TecolFate::Unreadable(spot_in(input, at)),
+        Err(NoMemory) => return TecolFate::NoMemory,
     };
     match put(alloc, line, number, &bytes, term, disk) {
         Ok(unkept) => fate_put(is_faulty, unkept),
@@ -112,12 +112,12 @@ fn make_and_put<T: Terminal, D: Disk>(
 /// Does what the line says.
 fn run_over<S: Source, T: Terminal, D: Disk>(
     alloc: Global,
-    line: &Line,
+    line: &TecolLine,
     number: u32,
     stream: &mut S,
     term: &mut T,
     disk: &mut D,
-) -> Fate
+) -> TecolFate
     ensures { let view = view_of (disk_seen D.Disk D.Input.Source)
         S.Source T.screen in
         RunsOver view line.now (host disk.old stream.old term.old) (host disk.new stream.new term.new) result }
@@ -137,7 +137,7 @@ fn no_memory<E: Terminal>(errors: &mut E) -> u8
 }
 
 /// Tells how a run over the line ends, and gives the status.
-fn conclude<E: Terminal>(alloc: Global, line: &Line, fate: Fate, errors: &mut E) -> u8
+fn conclude<E: Terminal>(alloc: Global, line: &TecolLine, fate: TecolFate, errors: &mut E) -> u8
     ensures { Concludes line.now fate (E.screen errors.old) (E.screen errors.new) result }
 {
     match text_of(alloc, line, fate) {
@@ -152,7 +152,7 @@ fn conclude<E: Terminal>(alloc: Global, line: &Line, fate: Fate, errors: &mut E)
 /// Does what the line says, tells how that ends, and gives the status. The number is for the name of a draft.
 pub fn keep<S: Source, T: Terminal, E: Terminal, D: Disk>(
     alloc: Global,
-    line: &Line,
+    line: &TecolLine,
     number: u32,
     stream: &mut S,
     term: &mut T,
@@ -168,7 +168,7 @@ pub fn keep<S: Source, T: Terminal, E: Terminal, D: Disk>(
     conclude(alloc, line, fate, errors)
 }
 
-fn line_by(alloc: Global, words: Result<Vec<String>, LineFault>) -> Result<Line, LineFault>
+fn line_by(alloc: Global, words: Result<Vec<String>, LineFault>) -> Result<TecolLine, LineFault>
     ensures line { IfOk result (SayLineIn words) }
     ensures fault { IfErr result (SayNoLineIn words) }
 {

@@ -4,8 +4,8 @@ ghost use Rattle.std.specs.String.{string_bytes};
 ghost use Rattle.teco_fs.specs.Reasons.{with_reason};
 ghost use Rattle.tecol_driver.specs.Ending.{is_told, kept_text, said, spot_in, text_of, unreadable};
 
-use crate::fate::Fate;
-use crate::line::Line;
+use crate::fate::TecolFate;
+use crate::line::TecolLine;
 use std::alloc::Global;
 use teco_core::NoMemory;
 use teco_fs::{Reason, Unkept};
@@ -41,7 +41,7 @@ fn unreadable(alloc: Global, input: &str, spot: Spot) -> Result<String, NoMemory
 }
 
 /// What is told of an output that is written: what could not be kept, or nothing.
-fn kept_text(alloc: Global, line: &Line, unkept: Option<Unkept>) -> Result<String, NoMemory>
+fn kept_text(alloc: Global, line: &TecolLine, unkept: Option<Unkept>) -> Result<String, NoMemory>
     ensures ok { IfOk result (λ text. string_bytes text ≡ kept_text line.now unkept) }
     ensures err { OnErr result (is_some unkept ≡ true) }
 {
@@ -52,18 +52,20 @@ fn kept_text(alloc: Global, line: &Line, unkept: Option<Unkept>) -> Result<Strin
 }
 
 /// What is told: a line, or nothing.
-pub fn text_of(alloc: Global, line: &Line, fate: Fate) -> Result<String, NoMemory>
+pub fn text_of(alloc: Global, line: &TecolLine, fate: TecolFate) -> Result<String, NoMemory>
     ensures ok { IfOk result (λ text. string_bytes text ≡ text_of line.now fate) }
     ensures err { OnErr result (is_told fate ≡ true) }
 {
     let input = line.input.as_str();
     match fate {
-        Fate::Done(unkept) => kept_text(alloc, line, unkept),
-        Fate::Faulty(unkept) => kept_text(alloc, line, unkept),
-        Fate::Unreadable(spot) => unreadable(alloc, input, spot),
-        Fate::NoInput(reason) => said_why(alloc, "cannot read ", input, reason),
-        Fate::LargeInput => said_of(alloc, "", input, " is too large"),
-        Fate::NoMemory => said_of(alloc, "no memory", "", ""),
-        Fate::NoOutput(reason) => { said_why(alloc, "cannot write ", line.output.as_str(), reason) }
+        TecolFate::Done(unkept) => kept_text(alloc, line, unkept),
+        TecolFate::Faulty(unkept) => kept_text(alloc, line, unkept),
+        TecolFate::Unreadable(spot) => unreadable(alloc, input, spot),
+        TecolFate::NoInput(reason) => said_why(alloc, "cannot read ", input, reason),
+        TecolFate::LargeInput => said_of(alloc, "", input, " is too large"),
+        TecolFate::NoMemory => said_of(alloc, "no memory", "", ""),
+        TecolFate::NoOutput(reason) => {
+            said_why(alloc, "cannot write ", line.output.as_str(), reason)
+        }
     }
 }

@@ -4,7 +4,7 @@ ghost use Rattle.std.specs.Prelude.{◌≡◌, ◌≢◌, ◌∷◌, ◌++◌, [
 ghost use Rattle.teco_fs.specs.Disk.{Appends, Creates, Opens, Removes, Renames, Same, SameBut};
 ghost use Rattle.teco_fs.specs.FileLog.{GrowsByOne, files_of};
 
-use super::Refused;
+use super::RefusedCall;
 use std::alloc::Global;
 use std::io;
 use std::io::ErrorKind;
@@ -145,16 +145,16 @@ impl Log {
         Ok(())
     }
 
-    pub(super) fn opened(&self, refused: Refused, name: &str) -> io::Result<MemorySource>
+    pub(super) fn opened(&self, refused: RefusedCall, name: &str) -> io::Result<MemorySource>
         ensures { IfOk result
             (λ input. Opens (Some (files_of self.now)) name.now (⟦<MemorySource as Source>⟧.coming input)) }
     {
         let bytes = self.copied(name)?;
-        let fails = refused == Refused::Read;
+        let fails = refused == RefusedCall::Read;
         Ok(MemorySource::new(bytes, Vec::new(self.alloc), fails))
     }
 
-    pub(super) fn made(&mut self, refused: Refused, name: &str) -> io::Result<()>
+    pub(super) fn made(&mut self, refused: RefusedCall, name: &str) -> io::Result<()>
         ensures ok { OnOk result (Creates name.now [] (files_of self.old) (files_of self.new)) }
         ensures err { OnErr result (Same (files_of self.old) (files_of self.new)) }
         ensures others { SameBut name.now (files_of self.old) (files_of self.new) }
@@ -164,16 +164,21 @@ impl Log {
             return Err(io::Error::from(ErrorKind::AlreadyExists));
         };
         let empty = Vec::new(self.alloc);
-        self.note(refused == Refused::Make, name, name, Some(empty))
+        self.note(refused == RefusedCall::Make, name, name, Some(empty))
     }
 
-    pub(super) fn written(&mut self, refused: Refused, name: &str, bytes: &[u8]) -> io::Result<()>
+    pub(super) fn written(
+        &mut self,
+        refused: RefusedCall,
+        name: &str,
+        bytes: &[u8],
+    ) -> io::Result<()>
         ensures ok { OnOk result (Appends name.now bytes.now (files_of self.old) (files_of self.new)) }
         ensures others { SameBut name.now (files_of self.old) (files_of self.new) }
         ensures grows { GrowsByOne self.old self.new }
     {
         let mut all = self.copied(name)?;
-        let is_refused = refused == Refused::Write;
+        let is_refused = refused == RefusedCall::Write;
         let n = if is_refused {
             bytes.len() / 2
         } else {
@@ -189,7 +194,7 @@ impl Log {
 
     pub(super) fn written_both(
         &mut self,
-        refused: Refused,
+        refused: RefusedCall,
         name: &str,
         bytes: (&[u8], &[u8]),
     ) -> io::Result<()>
@@ -201,22 +206,22 @@ impl Log {
         self.written(refused, name, bytes.1)
     }
 
-    pub(super) fn renamed(&mut self, refused: Refused, from: &str, to: &str) -> io::Result<()>
+    pub(super) fn renamed(&mut self, refused: RefusedCall, from: &str, to: &str) -> io::Result<()>
         requires { from.now ≢ to.now }
         ensures ok { OnOk result (Renames from.now to.now (files_of self.old) (files_of self.new)) }
         ensures err { OnErr result (Same (files_of self.old) (files_of self.new)) }
         ensures grows { GrowsByOne self.old self.new }
     {
         let bytes = self.copied(from)?;
-        let is_refused = refused == Refused::Rename || refused == Refused::RenameAndRemove;
+        let is_refused = refused == RefusedCall::Rename || refused == RefusedCall::RenameAndRemove;
         self.note(is_refused, from, to, Some(bytes))
     }
 
-    pub(super) fn removed(&mut self, refused: Refused, name: &str) -> io::Result<()>
+    pub(super) fn removed(&mut self, refused: RefusedCall, name: &str) -> io::Result<()>
         ensures ok { OnOk result (Removes name.now (files_of self.old) (files_of self.new)) }
         ensures others { SameBut name.now (files_of self.old) (files_of self.new) }
         ensures grows { GrowsByOne self.old self.new }
     {
-        self.note(refused == Refused::RenameAndRemove, name, name, None)
+        self.note(refused == RefusedCall::RenameAndRemove, name, name, None)
     }
 }

@@ -7,7 +7,7 @@ use teco_check::{REGISTERS, fault_of};
 use teco_cli::{is_standard_input, line_of};
 use teco_core::{Args, CaseMode, Code, Op, Taken};
 use teco_exec::run;
-use teco_fs::{Disk, MemoryDisk, Refused, has_bytes};
+use teco_fs::{Disk, MemoryDisk, RefusedCall, has_bytes};
 use teco_gap::GapBuffer;
 use teco_io::{MemorySource, MemoryTerminal, Terminal, read_input};
 use teco_lint::check;
@@ -192,13 +192,13 @@ fn a_source_is_read(alloc: Global) -> bool {
 
 /// teco_fs: a disk in memory tells what a file has.
 fn a_file_is_put(alloc: Global) -> bool {
-    let mut disk = MemoryDisk::new(alloc, Refused::Nothing);
+    let mut disk = MemoryDisk::new(alloc, RefusedCall::Nothing);
     disk.put("in", b"one").is_ok() && disk.open("in").is_ok() && are_there(disk.bytes("in"), b"one")
 }
 
 /// teco_fs: a file has these bytes, which come in two parts.
 fn a_file_is_compared(alloc: Global) -> bool {
-    let mut disk = MemoryDisk::new(alloc, Refused::Nothing);
+    let mut disk = MemoryDisk::new(alloc, RefusedCall::Nothing);
     disk.put("in", b"one").is_ok() && has_bytes("in", (b"o", b"ne"), &mut disk)
 }
 

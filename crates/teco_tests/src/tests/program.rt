@@ -11,7 +11,7 @@ use std::test::*;
 use std::time::{Clock, Duration};
 use teco_cli::LineFault;
 use teco_driver::{Host, program};
-use teco_fs::{MemoryDisk, Refused};
+use teco_fs::{MemoryDisk, RefusedCall};
 use teco_io::{MemorySource, Source};
 use teco_serve::ClockAlarm;
 
@@ -122,18 +122,18 @@ fn runs_on(alloc: Global, disk: MemoryDisk, cells: &Cells, after: &str) -> bool 
 
 /// The call that is refused, by the first letter of what a row says: that which reads, makes, writes or keeps, puts a draft in its place, or
 /// that and the removal of the draft; that a file has changed; that an owner can't be kept, or what is written late.
-fn refused_of(said: &str) -> Refused {
+fn refused_of(said: &str) -> RefusedCall {
     match first_of(said) {
-        b'r' => Refused::Read,
-        b'm' => Refused::Make,
-        b'w' => Refused::Write,
-        b's' => Refused::Sync,
-        b'p' => Refused::Rename,
-        b'b' => Refused::RenameAndRemove,
-        b'c' => Refused::Changed,
-        b'o' => Refused::Owner,
-        b'l' => Refused::Changes,
-        _ => Refused::Nothing,
+        b'r' => RefusedCall::Read,
+        b'm' => RefusedCall::Make,
+        b'w' => RefusedCall::Write,
+        b's' => RefusedCall::Sync,
+        b'p' => RefusedCall::Rename,
+        b'b' => RefusedCall::RenameAndRemove,
+        b'c' => RefusedCall::Changed,
+        b'o' => RefusedCall::Owner,
+        b'l' => RefusedCall::Changes,
+        _ => RefusedCall::Nothing,
     }
 }
 

@@ -3,7 +3,7 @@ use Rattle.teco_lint.specs.Spelling.{is_misspelt}
 use Rattle.teco_lint.specs.Strings.{is_faulty}
 use Rattle.teco_source.specs.Seen.{IsReadAs}
 use Rattle.teco_source.specs.Source.{commands_of}
-use Rattle.teco_source.specs.declared.reader.SourceFault.{SourceFault}
+use Rattle.teco_source.specs.declared.reader.ReaderFault.{ReaderFault}
 use Rattle.teco_driver.proofs.Checks.{caret_alone, none_alone}
 use Rattle.teco_driver.proofs.verdict.verdict_alone.Goals as goal
 
@@ -15,12 +15,12 @@ returns-in_default c = record {
 
 pub returns-in-Err-Caret-clause-faulty : goal.returns-in-Err-Caret-clause-faulty
 returns-in-Err-Caret-clause-faulty c =
-    let caret = subst (λ (f : SourceFault). IsReadAs (commands_of c.as_bytes-source.result.now) (Err f)) c.in-Err-Caret.field-0-is c.in-Err-Caret.ensures.reads in
+    let caret = subst (λ (f : ReaderFault). IsReadAs (commands_of c.as_bytes-source.result.now) (Err f)) c.in-Err-Caret.field-0-is c.in-Err-Caret.ensures.reads in
     caret_alone is_faulty c.args.commands.now c.in-Pages.word c.in-Err-Caret.field-0-0 c.unchecked-in-Err-Caret.result.is_faulty c.in-Pages.is
     (ap commands_of (sym c.as_bytes-source.ensures.value) ∙ caret) c.unchecked-in-Err-Caret.ensures.faulty
 
 pub returns-in-Err-Caret-clause-misspelt : goal.returns-in-Err-Caret-clause-misspelt
 returns-in-Err-Caret-clause-misspelt c =
-    let caret = subst (λ (f : SourceFault). IsReadAs (commands_of c.as_bytes-source.result.now) (Err f)) c.in-Err-Caret.field-0-is c.in-Err-Caret.ensures.reads in
+    let caret = subst (λ (f : ReaderFault). IsReadAs (commands_of c.as_bytes-source.result.now) (Err f)) c.in-Err-Caret.field-0-is c.in-Err-Caret.ensures.reads in
     caret_alone is_misspelt c.args.commands.now c.in-Pages.word c.in-Err-Caret.field-0-0 c.unchecked-in-Err-Caret.result.is_misspelt c.in-Pages.is
     (ap commands_of (sym c.as_bytes-source.ensures.value) ∙ caret) c.unchecked-in-Err-Caret.ensures.misspelt

@@ -5,7 +5,7 @@ use crate::tests::rows::{Rule, all_hold, halves_at, number_or};
 use std::alloc::Global;
 use std::test::*;
 use teco_core::NoMemory;
-use tecol_driver::{Line, Made, Mode, make};
+use tecol_driver::{Made, TecolLine, TecolMode, make};
 
 /// What a row holds of.
 #[derive(Clone, Copy)]
@@ -20,12 +20,12 @@ enum Wanted {
 
 /// What is made, whether the words of each command are beside it, and what a row holds of: an input, and what is made of it.
 #[derive(Clone, Copy)]
-struct Makes(Mode, bool, Wanted);
+struct Makes(TecolMode, bool, Wanted);
 
 impl Makes {
     /// What a line of this mode makes of an input.
     fn made_of(&self, alloc: Global, input: &str) -> Result<Made, NoMemory> {
-        let line = Line {
+        let line = TecolLine {
             input: String::from_str(alloc, "-")?,
             output: String::from_str(alloc, "-")?,
             mode: self.0,
@@ -52,23 +52,32 @@ impl Rule for Makes {
 fn table(at: usize) -> (Makes, &'static str) {
     match at {
         0 => (
-            Makes(Mode::CheckSource, false, Wanted::Faulty),
+            Makes(TecolMode::CheckSource, false, Wanted::Faulty),
             checks::FAULTS,
         ),
-        1 => (Makes(Mode::CheckSource, false, Wanted::Fine), checks::HINTS),
+        1 => (
+            Makes(TecolMode::CheckSource, false, Wanted::Fine),
+            checks::HINTS,
+        ),
         2 => (
-            Makes(Mode::CheckBytes, false, Wanted::Faulty),
+            Makes(TecolMode::CheckBytes, false, Wanted::Faulty),
             checks::BYTES,
         ),
-        3 => (Makes(Mode::Listing, false, Wanted::Fine), listings::LISTED),
-        4 => (Makes(Mode::Listing, true, Wanted::Fine), listings::WORDED),
-        5 => (Makes(Mode::Again, true, Wanted::Fine), listings::AGAIN),
-        6 => (Makes(Mode::Bytes, false, Wanted::Fine), sources::READ),
+        3 => (
+            Makes(TecolMode::Listing, false, Wanted::Fine),
+            listings::LISTED,
+        ),
+        4 => (
+            Makes(TecolMode::Listing, true, Wanted::Fine),
+            listings::WORDED,
+        ),
+        5 => (Makes(TecolMode::Again, true, Wanted::Fine), listings::AGAIN),
+        6 => (Makes(TecolMode::Bytes, false, Wanted::Fine), sources::READ),
         7 => (
-            Makes(Mode::Bytes, false, Wanted::Unreadable),
+            Makes(TecolMode::Bytes, false, Wanted::Unreadable),
             sources::UNREADABLE,
         ),
-        _ => (Makes(Mode::Bytes, false, Wanted::Fine), ""),
+        _ => (Makes(TecolMode::Bytes, false, Wanted::Fine), ""),
     }
 }
 

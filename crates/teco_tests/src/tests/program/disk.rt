@@ -10,7 +10,7 @@ use std::os::fd::AsRawFd;
 use std::os::unix::fs::{MetadataExt, PermissionsExt};
 use std::time::SystemTime;
 use std::{fs, io};
-use teco_fs::{Disk, FileDisk, MemoryDisk, Refused, Written, write_output};
+use teco_fs::{Disk, FileDisk, MemoryDisk, RefusedCall, Written, write_output};
 
 /// Whether an output of these bytes is written, in two parts. What was read under this name, if a name is given, has to be what it was.
 fn writes_over<D: Disk>(
@@ -399,22 +399,22 @@ fn writes_whole_files_and_tells_what_a_file_is(rt: HostRuntime) {
 
 /// What a disk in memory refuses, and what a device of it was given of two outputs: of each that is refused half the first part. No file
 /// is made. A file is as it was read, unless the disk is to tell of a change.
-static DEVICES: [(Refused, &str); 3] = [
-    (Refused::Nothing, "abcdefgh"),
-    (Refused::Write, "ae"),
-    (Refused::Changed, "abcdefgh"),
+static DEVICES: [(RefusedCall, &str); 3] = [
+    (RefusedCall::Nothing, "abcdefgh"),
+    (RefusedCall::Write, "ae"),
+    (RefusedCall::Changed, "abcdefgh"),
 ];
 
-fn gives_a_device(alloc: Global, refused: Refused, given: &str) -> bool {
+fn gives_a_device(alloc: Global, refused: RefusedCall, given: &str) -> bool {
     let mut disk = MemoryDisk::new(alloc, refused);
-    let is_full = matches!(refused, Refused::Write);
+    let is_full = matches!(refused, RefusedCall::Write);
     disk.put_device("dev").is_ok()
         && writes(alloc, &mut disk, "dev", "abcd") != is_full
         && writes(alloc, &mut disk, "dev", "efgh") != is_full
         && failed_by(disk.why(), "StorageFull") == is_full
         && are_there(disk.given("dev"), given.as_bytes())
         && disk.has_only(&[])
-        && is_as_read(&mut disk, "in", !matches!(refused, Refused::Changed))
+        && is_as_read(&mut disk, "in", !matches!(refused, RefusedCall::Changed))
 }
 
 /// Where memory was refused, a second time.

@@ -2,7 +2,7 @@ use Rattle.std.proofs.Common.{List, ℕ, drop, sym, subst, arith}
 use Rattle.std.proofs.lemmas.List.{drop_all}
 use Rattle.teco_scan.specs.Seen.{meaning_in}
 use Rattle.teco_lint.proofs.Noted.{OfBytes, token_noted, fault_noted, end_noted, nothing_noted, past_fault}
-use Rattle.teco_lint.proofs.calling.Registers.+noting.Goals as goal
+use Rattle.teco_lint.proofs.calling.RegisterUses.+noting.Goals as goal
 
 pub note_text-loop-at-preserved-in-Token : goal.note_text-loop-at-preserved-in-Token
 note_text-loop-at-preserved-in-Token t c = λ later rest.

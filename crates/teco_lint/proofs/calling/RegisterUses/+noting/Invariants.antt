@@ -1,6 +1,6 @@
 use Rattle.std.proofs.Common.{◌*◌, ◌+◌, ◌-◌, Bool, List, length, drop}
 use Rattle.teco_lint.proofs.Noted.{OfBytes}
-use Rattle.teco_lint.proofs.calling.Registers.+noting.Given as goal
+use Rattle.teco_lint.proofs.calling.RegisterUses.+noting.Given as goal
 
 -- a text is above its tokens, and a token above the texts in it
 abbrev pub decreases-note_text : goal.decreases-note_text

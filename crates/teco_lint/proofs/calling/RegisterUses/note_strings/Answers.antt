@@ -1,7 +1,7 @@
 use Rattle.std.proofs.Common.{◌-◌, [], ◌∷◌, ℕ, List, length, take, drop, sym, subst, ap, ◌∙◌, arith}
 use Rattle.teco_lint.proofs.Cuts.{whole_held}
 use Rattle.teco_lint.proofs.Noted.{OfStrings, last_noted}
-use Rattle.teco_lint.proofs.calling.Registers.note_strings.Goals as goal
+use Rattle.teco_lint.proofs.calling.RegisterUses.note_strings.Goals as goal
 
 pub returns : goal.returns
 returns c =

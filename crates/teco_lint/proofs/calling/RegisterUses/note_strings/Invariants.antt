@@ -1,7 +1,7 @@
 use Rattle.std.proofs.Common.{◌≤◌, ◌-◌, Bool, List, length, drop}
 use Rattle.teco_lint.specs.Strings.{strings_of}
 use Rattle.teco_lint.proofs.Noted.{OfStrings}
-use Rattle.teco_lint.proofs.calling.Registers.note_strings.Given as goal
+use Rattle.teco_lint.proofs.calling.RegisterUses.note_strings.Given as goal
 
 -- if the strings that are left are noted, all are
 abbrev pub invariant-loop-end : goal.invariant-loop-end
