@@ -5,8 +5,6 @@ pub(super) const EXAMPLES: &str = "
     @\x15U/0A\"V0A-32UXDQXI$'/Y<.-Z;MUL>EX$$ => => One\nTwo\n => one\ntwo\n => exit
     // All letters as capitals?
     Y<.-Z;0A\"V0A-32UXDQXI$|C'>EX$$ => => ONE TWO\n => one Two\n => exit
-    // A byte by its number?
-    Y65I$10I$EX$$ => => A\nx\n => x\n => exit
     // Text with an ESC or a dollar in it?
     @I/a$b/Z=J2A=$$ => 3\n98\n => ?
     // A text that is any of several bytes?

@@ -5,12 +5,8 @@ pub(super) const EXAMPLES: &str = "
     Y<S`D$;R.UB\\UAQB,.KQA+1\\>EX$$ => => a2 b10 c100\n => a1 b9 c99\n => exit
     // The sum of all numbers?
     Y<S`D$;R\\+QAUA>QA=EX$$ => 7\n => 3 apples, 4 pears\n => 3 apples, 4 pears\n => exit
-    // Two registers as variables?
-    0UA1UB7<QA=QA+QBUCQBUAQCUB>$$ => 0\n1\n1\n2\n3\n5\n8\n => ?
     // If and else?
     Y<.-Z;.UBL.-QB-5\"GQBJIlong $|QBJIshort $'L>EX$$ => => short one\nlong eleven\n => one\neleven\n => exit
     // The greater of two numbers?
     3UA5UBQA-QB\"GQAUC|QBUC'QC=$$ => 5\n => ?
-    // Without precedence: how is a sum of products written?
-    2*3+(4*5)=2*3+4*5=$$ => 26\n50\n => ?
     ";

@@ -5,8 +5,6 @@ pub(super) const EXAMPLES: &str = "
     Y<S\x0e\n\n\x0e\n$;R-DI $>EX$$ => => one two\n\nthree four\n => one\ntwo\n\nthree\nfour\n => exit
     // All lines as one, with commas?
     Y<S\n$;.-Z\"L-DI, $'>EX$$ => => one, two, three\n => one\ntwo\nthree\n => exit
-    // One line into several?
-    Y<FS, $\n$;>EX$$ => => one\ntwo\nthree\n => one, two, three\n => exit
     // Without what is between two marks?
     Y<S(*$;-2C.UBS*)$;QB,.K>EX$$ => => a c\n => a (* b *)c(* d *)\n => exit
     // Only what is between two lines?

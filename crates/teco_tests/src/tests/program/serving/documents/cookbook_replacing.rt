@@ -9,8 +9,6 @@ pub(super) const EXAMPLES: &str = "
     Y<FSa$4$;L>EX$$ => => b4nana\nxx\n4nanas\n => banana\nxx\nananas\n => exit
     // Only the second in the file?
     Y2:Sone$\"L-3DItwo$'EX$$ => => one two one\n => one one one\n => exit
-    // With nothing in its place?
-    Y<@FS/, please//;>EX$$ => => stop, now\n => stop, please, now\n => exit
     // In either case?
     Y0\x18<FScolour$color$;>EX$$ => => color color\n => Colour COLOUR\n => exit
     // Whole words only?
@@ -21,8 +19,6 @@ pub(super) const EXAMPLES: &str = "
     Y<J@FS/()//;>EX$$ => => ab\n => a((())())b\n => exit
     // Runs of blanks by one blank?
     Y<FS`S$ $;>EX$$ => => a b c\n => a  b\t c\n => exit
-    // Tabs by blanks?
-    Y<FS\t$    $;>EX$$ => => a    b\n => a\tb\n => exit
     // CR LF by LF?
     Y<FS\r\n$\n$;>EX$$ => => one\ntwo\n => one\r\ntwo\r\n => exit
     ";

@@ -24,10 +24,6 @@ pub(super) const EXAMPLES: &str = "
     // What to write in its place
     Ione\ntwo\n$JXAL .U9 :QAU8 GA L Q9,.XA Q9,Q9+Q8K :GA$$ => onetwo => ?
     // What to write in its place
-    Ia cat$JScat$.-3=$$ => 2 => ?
-    // What to write in its place
-    Ia cat$JScat$-3DIdog$HT$$ => adog => ?
-    // What to write in its place
     2UA QA-1\"EOone$' QA-2\"EOtwo$' !one!\x01one\x01 Oend$ !two!\x01two\x01 !end!$$ => two => ?
     // What to write in its place
     Iaab$J<::Sb$\"S0;'C>.=$$ => 3 => ?
@@ -42,15 +38,9 @@ pub(super) const EXAMPLES: &str = "
     // What to write in its place
     Iabcb$J3UE :Sb$\"S .-QE\"G \x1en\x14 | -DIy$ '' HT$$ => aycb => ?
     // What to write in its place
-    Iabcd$1J [1 .U1 Sc$ Q1,.K ]1 HT$$ => ad => ?
-    // What to write in its place
-    Iabc$J @FS/b// HT$$ => ac => ?
-    // What to write in its place
     3< !top! %A-2\"EOtop$' QA= >$$ => 134 => ?
     // What to write in its place
     3<%A-2\"EOnext$' QA= !next!>$$ => 13 => ?
-    // What to write in its place
-    0\"E 1= Oend$ 2= ' !end! 3=$$ => 13 => ?
     // What to write in its place
     I12$J 0A\"D 1A\"DOtwo$' \x01one\x01 Oend$' !two! \x01another\x01 !end!$$ => another => ?
     // What to write in its place
@@ -61,10 +51,6 @@ pub(super) const EXAMPLES: &str = "
     Iabc$2J .UP :Sx$\"UQPJ' .=$$ => 2 => ?
     // What to write in its place
     \x15Acat$ .U9 GA Q9+1J0AUB Q9,Q9+:QAK QB=Z=$$ => 970 => ?
-    // What to write in its place
-    Ia\nb\nc\n$J L 1-2T2T$$ => abc => ?
-    // What to write in its place
-    0\"E1=' -1\"L2=' 1\"G3='$$ => 123 => ?
     // What to write in its place
     I.$J 0A\"R1=|0A-\x1e.\"E2=''$$ => 2 => ?
     // What to write in its place
