@@ -10,10 +10,11 @@ use Rattle.teco_search.specs.declared.element.SetItem.{SetItem}
 use Rattle.teco_search.specs.declared.element.SetItem.TheVariants as item
 use Rattle.teco_search.specs.declared.element.OneByte.{OneByte}
 use Rattle.teco_search.specs.declared.element.OneByte.TheVariants as one
+use Prim.Native.Char.{code}
 
 -- space and TAB
 abbrev pub is_blank : ℕ → Bool
-is_blank b = b == 32 || b == 9
+is_blank b = b == code " " || b == code "\t"
 
 -- whether a byte is of a kind
 unfoldable pub is_in : Class → ℕ → Bool

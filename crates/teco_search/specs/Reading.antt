@@ -13,6 +13,8 @@ use Rattle.teco_search.specs.declared.element.OneByte.TheVariants as one
 use Rattle.teco_search.specs.declared.element.Element.{Element}
 use Rattle.teco_search.specs.declared.element.Element.TheVariants as element
 use Rattle.teco_core.specs.Ascii.{upper}
+use Prim.Native.Char.{code}
+use Rattle.teco_search.specs.declared.reading.TheConstants.{CONTROL_E, CONTROL_N, CONTROL_Q, CONTROL_R, CONTROL_S, CONTROL_V, CONTROL_W, CONTROL_X}
 
 -- something read, and the place after it
 abbrev pub Reading : Type 0 → Type 0
@@ -29,27 +31,27 @@ byte_at text at = option_map_or (λ b. Ok b) (slice_get text at) (Err Ice)
 -- the kind of bytes that a letter after ^E names, in either case
 abbrev pub class_named : ℕ → Result Class Code
 class_named b =
-    if b == 88 then Ok class.Any else (if b == 66 then Ok class.Other else (if b == 65 then Ok class.Letter
-    else (if b == 68 then Ok class.Digit
-    else (if b == 76 then Ok class.LineEnd else (if b == 82 then Ok class.LetterOrDigit
-    else (if b == 86 then Ok class.LowerCase else (if b == 87 then Ok class.UpperCase else Err Ice)))))))
+    if b == code "X" then Ok class.Any else (if b == code "B" then Ok class.Other else (if b == code "A" then Ok class.Letter
+    else (if b == code "D" then Ok class.Digit
+    else (if b == code "L" then Ok class.LineEnd else (if b == code "R" then Ok class.LetterOrDigit
+    else (if b == code "V" then Ok class.LowerCase else (if b == code "W" then Ok class.UpperCase else Err Ice)))))))
 
 -- the control bytes that are no item: ^N, ^R, ^V, ^W
 abbrev pub is_no_item : ℕ → Bool
-is_no_item b = b == 14 || b == 18 || b == 22 || b == 23
+is_no_item b = b == CONTROL_N || b == CONTROL_R || b == CONTROL_V || b == CONTROL_W
 
 -- ^Q and a byte, ^E and a letter, ^X, ^S, or a byte itself
 abbrev pub item_by : ℕ → List ℕ → ℕ → Reading SetItem
 item_by b text at =
-    if b == 17 then (do
+    if b == CONTROL_Q then (do
       quoted ← byte_at text at
       Ok (item.Byte quoted, at + 1))
     else (if b == 5 then (do
       letter ← byte_at text at
       named ← class_named (upper letter)
       Ok (item.Class named, at + 1))
-    else (if b == 24 then Ok (item.Class class.Any, at)
-    else (if b == 19 then Ok (item.Class class.Other, at)
+    else (if b == CONTROL_X then Ok (item.Class class.Any, at)
+    else (if b == CONTROL_S then Ok (item.Class class.Other, at)
     else (if is_no_item b then Err Ice else Ok (item.Byte b, at)))))
 
 unfoldable pub item_at : List ℕ → ℕ → Reading SetItem
@@ -59,12 +61,12 @@ item_at text at = do
 
 -- No item of a list begins with a comma or ].
 unfoldable pub listed_at : List ℕ → ℕ → Reading SetItem
-listed_at text at = if occurs_at text at 44 || occurs_at text at 93 then Err Ice else item_at text at
+listed_at text at = if occurs_at text at (code ",") || occurs_at text at (code "]") then Err Ice else item_at text at
 
 -- After an item of a list comes ] as its end, or a comma and the next item.
 abbrev pub after_item : ℕ → SetItem → Reading (List SetItem) → ℕ → Reading (List SetItem)
 after_item b i others at =
-    if b == 93 then Ok (i ∷ [], at) else (if b == 44 then (do
+    if b == code "]" then Ok (i ∷ [], at) else (if b == code "," then (do
       is ← others
       Ok (i ∷ is.0, is.1)) else Err Ice)
 
@@ -79,7 +81,7 @@ items_at (suc n) text at = do
 -- ^E[ and a list, or one item
 unfoldable pub one_byte_at : List ℕ → ℕ → Reading OneByte
 one_byte_at text at =
-    if occurs_at text at 5 && occurs_at text (at + 1) 91 then (do
+    if occurs_at text at CONTROL_E && occurs_at text (at + 1) (code "[") then (do
       is ← items_at (length text) text (at + 2)
       Ok (one.Listed is.0, is.1))
     else (do
@@ -89,9 +91,9 @@ one_byte_at text at =
 -- ^ES, or ^N and what is not to be there, or what is to be there
 unfoldable pub element_at : List ℕ → ℕ → Reading Element
 element_at text at =
-    if occurs_at text at 5 && (occurs_at text (at + 1) 83 || occurs_at text (at + 1) 115)
+    if occurs_at text at CONTROL_E && (occurs_at text (at + 1) (code "S") || occurs_at text (at + 1) (code "s"))
     then Ok (element.Blanks, at + 2)
-    else (if occurs_at text at 14 then (do
+    else (if occurs_at text at CONTROL_N then (do
       c ← one_byte_at text (at + 1)
       Ok (element.Except c.0, c.1))
     else (do

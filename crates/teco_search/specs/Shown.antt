@@ -10,10 +10,11 @@ use Rattle.teco_search.specs.declared.element.OneByte.{OneByte}
 use Rattle.teco_search.specs.declared.element.OneByte.TheVariants as one
 use Rattle.teco_search.specs.declared.element.Element.{Element}
 use Rattle.teco_search.specs.declared.element.Element.TheVariants as element
+use Prim.Native.Char.{code}
 
 -- an ASCII character that shows as itself, and another byte by its code in angle brackets
 abbrev pub shown_byte : ℕ → List ℕ
-shown_byte b = if nat_le 32 b && nat_le b 126 then b ∷ [] else codes "<" ++ decimal b ++ codes ">"
+shown_byte b = if nat_le (code " ") b && nat_le b (code "~") then b ∷ [] else codes "<" ++ decimal b ++ codes ">"
 
 -- ^E and the letter of a kind of bytes
 abbrev pub shown_class : Class → List ℕ

@@ -147,12 +147,7 @@ impl Items {
     pub(crate) fn admit(&self, mode: CaseMode, byte: u8) -> bool
         ensures { result ≡ list_any (λ i. item_admits mode i byte) self.now }
     {
-        'items: for item in self.as_slice() {
-            if item.admits(mode, byte) {
-                return true;
-            }
-        }
-        false
+        self.items.iter().any(|item| item.admits(mode, byte))
     }
 }
 
@@ -183,14 +178,20 @@ impl Element {
     }
 }
 
-/// How each kind is shown, in the order of the kinds.
-const KINDS: [&str; 8] = ["^EX", "^EB", "^EA", "^ED", "^EL", "^ER", "^EV", "^EW"];
-
 impl fmt::Display for Class {
     ghost output = { λ class. Some (shown_class class) };
 
     fn fmt<W: fmt::Write>(&self, f: &mut fmt::Formatter<W>) -> fmt::Result {
-        f.write_str(KINDS[*self as usize])
+        f.write_str(match self {
+            Class::Any => "^EX",
+            Class::Other => "^EB",
+            Class::Letter => "^EA",
+            Class::Digit => "^ED",
+            Class::LineEnd => "^EL",
+            Class::LetterOrDigit => "^ER",
+            Class::LowerCase => "^EV",
+            Class::UpperCase => "^EW",
+        })
     }
 }
 
@@ -201,7 +202,7 @@ impl fmt::Display for SetItem {
     fn fmt<W: fmt::Write>(&self, f: &mut fmt::Formatter<W>) -> fmt::Result {
         match self {
             SetItem::Byte(byte) => {
-                if b' ' <= *byte && *byte <= b'~' {
+                if matches!(*byte, b' '..=b'~') {
                     f.write_char(char::from(*byte))
                 } else {
                     write!(f, "<{byte}>")
