@@ -12,6 +12,7 @@ use Rattle.teco_scan.specs.declared.command.Form.{Form}
 use Rattle.teco_scan.specs.declared.table.TheConstants.{ROWS}
 use Rattle.teco_scan.specs.Scan.{Reading, TokenMeaning, no_modifiers, modifiers_at, operand_at, row_at, is_cut}
 use Rattle.teco_scan.specs.Table.{begins_with}
+use Prim.Native.Char.{code}
 
 -- no name of these rows begins with the byte
 abbrev pub none_begins : List Row → ℕ → Bool
@@ -19,7 +20,7 @@ none_begins rows b = list_all (λ r. not (begins_with r.name b)) rows
 
 -- A name of one letter is the byte, and no modifier.
 abbrev pub is_whole : Name → ℕ → Bool
-is_whole (One l) b = upper b == l && not (b == 64) && not (b == 58)
+is_whole (One l) b = upper b == l && not (b == code "@") && not (b == code ":")
 is_whole (Two l k) b = true
 is_whole (Three l k j) b = true
 is_whole (Control l) b = true

@@ -18,6 +18,8 @@ use Rattle.teco_scan.specs.declared.command.TextCommand.{TextCommand}
 use Rattle.teco_scan.specs.declared.command.Test.{Test}
 use Rattle.teco_scan.specs.declared.command.Test.TheVariants as tests
 use Rattle.teco_scan.specs.declared.table.TheConstants.{ROWS}
+use Prim.Native.Char.{code}
+use Rattle.teco_core.specs.declared.ascii.TheConstants.{ESC}
 
 -- what is a step of its own, with its operands; a register by its number, a text as its bytes
 pub data Item : Type 0 where
@@ -121,15 +123,15 @@ operand_at (form.Text c usual) m bs = do
   t ← text_at d.0 d.1
   Ok (step (text c t.0), t.1)
 operand_at form.Tag m bs = do
-  t ← text_at 33 bs
+  t ← text_at (code "!") bs
   Ok (tag t.0, t.1)
 operand_at form.SetText m bs = do
   q ← register_at bs
-  d ← delimiter_at m 27 q.1
+  d ← delimiter_at m ESC q.1
   t ← text_at d.0 d.1
   Ok (step (set_text q.0 t.0), t.1)
 operand_at form.Replace m bs = do
-  d ← delimiter_at m 27 bs
+  d ← delimiter_at m ESC bs
   old ← text_at d.0 d.1
   new ← text_at d.0 old.1
   Ok (step (replace old.0 new.0), new.1)
@@ -142,8 +144,8 @@ no_modifiers = record { at = false; colons = 0 }
 unfoldable pub modifiers_at : Modifiers → List ℕ → Reading Modifiers
 modifiers_at m [] = Ok (m, [])
 modifiers_at m (b ∷ bs) =
-    if b == 64 then (if m.at then Err Ill else modifiers_at (record m { at = true }) bs)
-    else (if b == 58 then (if m.colons == 2 then Err Ill
+    if b == code "@" then (if m.at then Err Ill else modifiers_at (record m { at = true }) bs)
+    else (if b == code ":" then (if m.colons == 2 then Err Ill
     else modifiers_at (record m { colons = m.colons + 1 }) bs)
     else Ok (m, b ∷ bs))
 
@@ -163,7 +165,7 @@ after_name (Three l k j) bs = option_and_then (after_letter j)
     (option_and_then (after_letter k) (after_letter l bs))
 after_name (Control l) [] = None
 after_name (Control l) (b ∷ bs) = if b + 64 == l then Some bs
-    else (if b == 94 then after_letter l bs else None)
+    else (if b == code "^" then after_letter l bs else None)
 
 -- the bytes are a front of the name, and not all of it
 unfoldable pub ends_inside : Name → List ℕ → Bool
@@ -174,7 +176,7 @@ ends_inside (Two l k) (b ∷ c ∷ bs) = false
 ends_inside (Three l k j) (b ∷ []) = upper b == l
 ends_inside (Three l k j) (b ∷ c ∷ []) = upper b == l && upper c == k
 ends_inside (Three l k j) (b ∷ c ∷ d ∷ bs) = false
-ends_inside (Control l) (b ∷ []) = b == 94
+ends_inside (Control l) (b ∷ []) = b == code "^"
 ends_inside (Control l) (b ∷ c ∷ bs) = false
 
 abbrev pub is_refused : Form → Bool

@@ -8,20 +8,21 @@ use Rattle.teco_scan.specs.declared.blocks.Kind.TheVariants.{Iter, Then, Else}
 use Rattle.teco_scan.specs.declared.blocks.SkipEnd.{SkipEnd}
 use Rattle.teco_scan.specs.Scan.{Instruction, mark, decide, tag}
 use Rattle.teco_scan.specs.Lists.{list_at, tag_at}
+use Prim.Native.Char.{code}
 
 -- the last byte that a skip passes: `|` where the block is divided, else `>` of an iteration and `'` of a conditional
 abbrev pub closing_byte : Kind → Bool → ℕ
-closing_byte kind true = 124
-closing_byte Iter false = 62
-closing_byte Then false = 39
-closing_byte Else false = 39
+closing_byte kind true = code "|"
+closing_byte Iter false = code ">"
+closing_byte Then false = code "'"
+closing_byte Else false = code "'"
 
 -- how a mark is written
 abbrev pub byte_of : BlockMark → ℕ
-byte_of Iterate = 60
-byte_of EndIteration = 62
-byte_of Otherwise = 124
-byte_of EndTest = 39
+byte_of Iterate = code "<"
+byte_of EndIteration = code ">"
+byte_of Otherwise = code "|"
+byte_of EndTest = code "'"
 
 -- A skip stopped one past that byte.
 abbrev pub IsClosed : List ℕ → Kind → SkipEnd → Type 0
@@ -33,7 +34,7 @@ IsWholeClosed bs kind to = drop (to - 1) bs ≡ closing_byte kind false ∷ drop
 
 -- A place is one past the `!` that ends a tag.
 abbrev pub IsBehindTag : List ℕ → ℕ → Type 0
-IsBehindTag bs to = drop (to - 1) bs ≡ 33 ∷ drop to bs
+IsBehindTag bs to = drop (to - 1) bs ≡ code "!" ∷ drop to bs
 
 -- the mark by which a block ends or is divided, if the token is one
 abbrev pub closing_mark : Instruction → Option BlockMark

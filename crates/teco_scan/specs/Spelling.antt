@@ -17,14 +17,16 @@ use Rattle.teco_scan.specs.declared.command.RegisterCommand.{RegisterCommand}
 use Rattle.teco_scan.specs.declared.command.TextCommand.{TextCommand}
 use Rattle.teco_scan.specs.declared.command.Test.{Test}
 use Rattle.teco_scan.specs.Scan.{digits, bare, register, byte, text, set_text, replace, Instruction, step, mark, decide, tag, escape, TokenMeaning, test_of, admits, no_modifiers, token_from, scan, scan_here}
+use Prim.Native.Char.{code}
+use Rattle.teco_core.specs.declared.ascii.TheConstants.{ESC}
 
 -- modifiers that lead from these to those: at most one @ and two colons, in any order
 pub data Marks : Modifiers → List ℕ → Modifiers → Type 0 where
   no_mark : {m : Modifiers} → Marks m [] m
   at_mark : {m n : Modifiers} {bs : List ℕ} → m.at ≡ false → Marks (record m { at = true }) bs n
-      → Marks m (64 ∷ bs) n
+      → Marks m (code "@" ∷ bs) n
   colon_mark : {m n : Modifiers} {bs : List ℕ} → m.colons ≢ 2
-      → Marks (record m { colons = m.colons + 1 }) bs n → Marks m (58 ∷ bs) n
+      → Marks (record m { colons = m.colons + 1 }) bs n → Marks m (code ":" ∷ bs) n
 
 -- letters are of either case; a control command is its byte, or a caret and its letter
 pub data SpellsName : Name → List ℕ → Type 0 where
@@ -33,7 +35,7 @@ pub data SpellsName : Name → List ℕ → Type 0 where
   three_spelled : {l k j b c d : ℕ} → upper b ≡ l → upper c ≡ k → upper d ≡ j
       → SpellsName (Three l k j) (b ∷ c ∷ d ∷ [])
   control_spelled : {l b : ℕ} → b + 64 ≡ l → SpellsName (Control l) (b ∷ [])
-  caret_spelled : {l b : ℕ} → upper b ≡ l → SpellsName (Control l) (94 ∷ b ∷ [])
+  caret_spelled : {l b : ℕ} → upper b ≡ l → SpellsName (Control l) (code "^" ∷ b ∷ [])
 
 -- what comes before the first text: with @ the delimiter, which is any byte; else nothing, and the delimiter is the usual one
 abbrev pub Delimits : Modifiers → ℕ → ℕ → List ℕ → Type 0
@@ -56,11 +58,11 @@ pub data SpellsOperand : Form → Modifiers → Instruction → List ℕ → Typ
   text_spelled : {c : TextCommand} {usual : ℕ} {m : Modifiers} {t bs : List ℕ} (d : ℕ) (front back : List ℕ)
       → Delimits m usual d front → TextUpTo d t back → bs ≡ front ++ back
       → SpellsOperand (form.Text c usual) m (step (text c t)) bs
-  tag_spelled : {m : Modifiers} {t bs : List ℕ} → TextUpTo 33 t bs → SpellsOperand form.Tag m (tag t) bs
+  tag_spelled : {m : Modifiers} {t bs : List ℕ} → TextUpTo (code "!") t bs → SpellsOperand form.Tag m (tag t) bs
   set_text_spelled : {q : ℕ} {m : Modifiers} {t bs : List ℕ} (b d : ℕ) (front back : List ℕ)
-      → register_of b ≡ Some q → Delimits m 27 d front → TextUpTo d t back → bs ≡ b ∷ (front ++ back)
+      → register_of b ≡ Some q → Delimits m ESC d front → TextUpTo d t back → bs ≡ b ∷ (front ++ back)
       → SpellsOperand form.SetText m (step (set_text q t)) bs
-  replace_spelled : {m : Modifiers} {t u bs : List ℕ} (d : ℕ) (front old new : List ℕ) → Delimits m 27 d front
+  replace_spelled : {m : Modifiers} {t u bs : List ℕ} (d : ℕ) (front old new : List ℕ) → Delimits m ESC d front
       → TextUpTo d t old → TextUpTo d u new → bs ≡ front ++ (old ++ new)
       → SpellsOperand form.Replace m (step (replace t u)) bs
 

@@ -8,6 +8,7 @@ use Rattle.teco_scan.specs.declared.command.Name.TheVariants.{One, Two, Three, C
 use Rattle.teco_scan.specs.declared.command.Form.{Form}
 use Rattle.teco_scan.specs.declared.command.Form.TheVariants as form
 use Rattle.teco_scan.specs.Scan.{is_refused}
+use Prim.Native.Char.{code}
 
 -- the byte is no small letter: letters are written in upper case, and other bytes have no case
 abbrev pub is_not_lower : ℕ → Bool
@@ -15,30 +16,30 @@ is_not_lower l = upper l == l
 
 -- a name's first letter is neither @ nor a colon nor a digit
 abbrev pub is_first_letter : ℕ → Bool
-is_first_letter l = is_not_lower l && not (l == 64) && not (l == 58) && not (is_digit l)
+is_first_letter l = is_not_lower l && not (l == code "@") && not (l == code ":") && not (is_digit l)
 
 -- the letter of a control command is from A to ^
 abbrev pub is_name : Name → Bool
 is_name (One l) = is_first_letter l
 is_name (Two l k) = is_first_letter l && is_not_lower k
 is_name (Three l k j) = is_first_letter l && is_not_lower k && is_not_lower j
-is_name (Control l) = nat_le 65 l && nat_le l 94
+is_name (Control l) = nat_le (code "A") l && nat_le l (code "^")
 
 abbrev pub lower : ℕ → ℕ
-lower l = if nat_le 65 l && nat_le l 90 then l + 32 else l
+lower l = if nat_le (code "A") l && nat_le l (code "Z") then l + 32 else l
 
 -- the bytes that a name may begin with
 abbrev pub first_bytes : Name → List ℕ
 first_bytes (One l) = l ∷ lower l ∷ []
 first_bytes (Two l k) = l ∷ lower l ∷ []
 first_bytes (Three l k j) = l ∷ lower l ∷ []
-first_bytes (Control l) = (l - 64) ∷ 94 ∷ []
+first_bytes (Control l) = (l - 64) ∷ code "^" ∷ []
 
 abbrev pub begins_with : Name → ℕ → Bool
 begins_with (One l) b = upper b == l
 begins_with (Two l k) b = upper b == l
 begins_with (Three l k j) b = upper b == l
-begins_with (Control l) b = b + 64 == l || b == 94
+begins_with (Control l) b = b + 64 == l || b == code "^"
 
 -- some byte may begin both names
 abbrev pub meets : Name → Name → Bool

@@ -1,6 +1,6 @@
 -- How each command of the table is written. The table is a definition: it says what commands there are, and nothing proves
 -- it right; these facts are what a reader can check it by. Each row has one here, in the order of their kinds.
-use Rattle.std.specs.Prelude.{◌≡◌, ℕ, true, false, nat_le, List, [], ◌∷◌, ◌++◌, codes, map}
+use Rattle.std.specs.Prelude.{◌≡◌, ℕ, ◌-◌, true, false, nat_le, List, [], ◌∷◌, ◌++◌, codes, map}
 use Rattle.std.specs.List.{filter}
 use Rattle.teco_core.specs.declared.code.Code.TheVariants.{Ill}
 use Rattle.teco_core.specs.declared.number.Op.TheVariants.{Plus, Minus, Times, Over, And, Or}
@@ -19,6 +19,8 @@ use Rattle.teco_scan.specs.declared.command.Name.{Name}
 use Rattle.teco_scan.specs.declared.command.Name.TheVariants.{One, Two, Three, Control}
 use Rattle.teco_scan.specs.declared.table.TheConstants.{ROWS}
 use Rattle.teco_scan.specs.Scan.{digits, bare, register, byte, text, set_text, replace, Instruction, step, mark, decide, tag, escape, TokenMeaning, found, fault, no_modifiers, scan}
+use Prim.Native.Char.{code}
+use Rattle.teco_core.specs.declared.ascii.TheConstants.{ESC}
 
 abbrev pub plain : Instruction → TokenMeaning
 plain i = record { modifiers = no_modifiers; instruction = i }
@@ -49,7 +51,7 @@ pub record NumbersAreSpelled : Type 0 where
   pub dot_is_the_pointer : IsBare (codes ".") (group.Quantity quantity.Pointer)
   pub caret_E_tells_of_the_form_feed : IsBare (codes "^E") (group.Quantity quantity.FormFeed)
   pub caret_N_tells_of_the_input : IsBare (codes "^N") (group.Quantity quantity.InputEnd)
-  pub two_carets_take_a_byte : IsToken (codes "^^x") (plain (step (byte 120)))
+  pub two_carets_take_a_byte : IsToken (codes "^^x") (plain (step (byte (code "x"))))
   pub H_is_the_whole : IsBare (codes "H") (group.Arithmetic arithmetic.Whole)
   pub plus_adds : IsBare (codes "+") (group.Arithmetic (arithmetic.Operator Plus))
   pub minus_subtracts : IsBare (codes "-") (group.Arithmetic (arithmetic.Operator Minus))
@@ -96,22 +98,22 @@ pub record RegisterCommandsAreSpelled : Type 0 where
   pub bracket_pushes : IsToken (codes "[a") (plain (step (register registers.Push 0)))
   pub bracket_pops : IsToken (codes "]a") (plain (step (register registers.Pop 0)))
 
--- Commands with a text. It goes up to ESC, here 27, but the text of `^A` goes up to `^A`, the byte 1; after @ it goes up to the
--- byte before it. `^U` is its control byte, or a caret and the letter, and so is each of its like.
+-- Commands with a text. It goes up to ESC, but the text of `^A` goes up to the control byte of A; after @ it goes up to the byte
+-- before it. `^U` is its control byte, or a caret and the letter, and so is each of its like.
 pub record TextCommandsAreSpelled : Type 0 where
-  pub I_inserts : IsToken (codes "Iab" ++ 27 ∷ []) (plain (step (text texts.Insert (codes "ab"))))
+  pub I_inserts : IsToken (codes "Iab" ++ ESC ∷ []) (plain (step (text texts.Insert (codes "ab"))))
   pub at_I_has_a_delimiter : IsToken (codes "@I/x/") (at_sign (step (text texts.Insert (codes "x"))))
-  pub TAB_inserts : IsToken (9 ∷ codes "ab" ++ 27 ∷ []) (plain (step (text texts.InsertTab (codes "ab"))))
-  pub caret_A_types : IsToken (codes "^Aab" ++ 1 ∷ []) (plain (step (text texts.TypeOut (codes "ab"))))
-  pub S_searches : IsToken (codes "Sab" ++ 27 ∷ []) (plain (step (text texts.Search (codes "ab"))))
-  pub N_searches_pages : IsToken (codes "Nab" ++ 27 ∷ []) (plain (step (text texts.SearchPages (codes "ab"))))
-  pub low_line_searches_pages_quietly : IsToken (codes "_ab" ++ 27 ∷ [])
+  pub TAB_inserts : IsToken (code "\t" ∷ codes "ab" ++ ESC ∷ []) (plain (step (text texts.InsertTab (codes "ab"))))
+  pub caret_A_types : IsToken (codes "^Aab" ++ (code "A" - 64) ∷ []) (plain (step (text texts.TypeOut (codes "ab"))))
+  pub S_searches : IsToken (codes "Sab" ++ ESC ∷ []) (plain (step (text texts.Search (codes "ab"))))
+  pub N_searches_pages : IsToken (codes "Nab" ++ ESC ∷ []) (plain (step (text texts.SearchPages (codes "ab"))))
+  pub low_line_searches_pages_quietly : IsToken (codes "_ab" ++ ESC ∷ [])
       (plain (step (text texts.SearchPagesQuietly (codes "ab"))))
-  pub O_goes_to_a_tag : IsToken (codes "Oab" ++ 27 ∷ []) (plain (step (text texts.Go (codes "ab"))))
-  pub FS_replaces : IsToken (codes "FSa" ++ 27 ∷ codes "b" ++ 27 ∷ [])
+  pub O_goes_to_a_tag : IsToken (codes "Oab" ++ ESC ∷ []) (plain (step (text texts.Go (codes "ab"))))
+  pub FS_replaces : IsToken (codes "FSa" ++ ESC ∷ codes "b" ++ ESC ∷ [])
       (plain (step (replace (codes "a") (codes "b"))))
-  pub control_U_sets_a_text : IsToken (21 ∷ codes "ax" ++ 27 ∷ []) (plain (step (set_text 0 (codes "x"))))
-  pub caret_U_sets_a_text : IsToken (codes "^Uax" ++ 27 ∷ []) (plain (step (set_text 0 (codes "x"))))
+  pub control_U_sets_a_text : IsToken ((code "U" - 64) ∷ codes "ax" ++ ESC ∷ []) (plain (step (set_text 0 (codes "x"))))
+  pub caret_U_sets_a_text : IsToken (codes "^Uax" ++ ESC ∷ []) (plain (step (set_text 0 (codes "x"))))
 
 -- marks of blocks, tags, and ESC between commands
 pub record MarksAreSpelled : Type 0 where
@@ -121,7 +123,7 @@ pub record MarksAreSpelled : Type 0 where
   pub bar_divides_a_conditional : IsToken (codes "|") (plain (mark Otherwise))
   pub apostrophe_ends_a_conditional : IsToken (codes "'") (plain (mark EndTest))
   pub marks_hold_a_tag : IsToken (codes "!x!") (plain (tag (codes "x")))
-  pub escape_is_a_token : IsToken (27 ∷ []) (plain escape)
+  pub escape_is_a_token : IsToken (ESC ∷ []) (plain escape)
 
 -- a command's name in letters: a control byte as a caret and its letter
 abbrev pub letters : Name → List ℕ
