@@ -12,8 +12,6 @@ pub(super) const EXAMPLES: &str = "
     // In either case?
     Y0\x18<FScolour$color$;>EX$$ => => color color\n => Colour COLOUR\n => exit
     // Whole words only?
-    Y<S`Bcat`B$;R-3DIdog$>EX$$ => => a dog, a concat, a dog!\n => a cat, a concat, a cat!\n => exit
-    // Whole words, also at both ends of the file?
     YI $ZJI $J<S`Bcat`B$;R-3DIdog$>JDZJ-DEX$$ => => dog and dog => cat and cat => exit
     // Until nothing is found any more?
     Y<J@FS/()//;>EX$$ => => ab\n => a((())())b\n => exit
