@@ -2,6 +2,7 @@
 use Rattle.std.specs.Prelude.{◌≡◌, ℕ, ◌≤◌, ◌+◌, ◌-◌, Bool, true, false, List, [], ◌∷◌, ◌++◌, length, take, drop, ◌==◌, ◌&&◌, if◌then◌else◌}
 use Rattle.teco_core.specs.Ascii.{is_line_end}
 use Rattle.teco_store.specs.State.{Body, State, StateOver, replaced}
+use Rattle.teco_store.specs.declared.pages.TheConstants.{FORM_FEED}
 
 -- whether a byte ends the last of so many lines; of 0 lines none is the last
 abbrev pub ends_lines : ℕ → ℕ → Bool
@@ -16,14 +17,14 @@ lines_after lines b = if is_line_end b then lines - 1 else lines
 unfoldable pub page_of : ℕ → List ℕ → List ℕ
 page_of lines [] = []
 page_of lines (b ∷ bs) =
-    if b == 12 then []
+    if b == FORM_FEED then []
     else (b ∷ (if ends_lines lines b then [] else page_of (lines_after lines b) bs))
 
 -- Whether a form feed ends it. One right after the last of its lines doesn't: it ends the next page, which is empty.
 abbrev pub is_ended : ℕ → List ℕ → Bool
 is_ended lines [] = false
 is_ended lines (b ∷ bs) =
-    if b == 12 then true
+    if b == FORM_FEED then true
     else (if ends_lines lines b then false else is_ended (lines_after lines b) bs)
 
 -- the bytes that reading it takes, its form feed too
@@ -62,7 +63,7 @@ with_more s = if is_input_over s then s else record (past_page s) { text = s.tex
 
 -- a form feed, where one is to be written
 abbrev pub form_feed_if : Bool → List ℕ
-form_feed_if true = 12 ∷ []
+form_feed_if true = FORM_FEED ∷ []
 form_feed_if false = []
 
 -- the page that is in the buffer as it goes to the output: with a form feed where one ended it

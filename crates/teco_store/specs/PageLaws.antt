@@ -3,10 +3,11 @@ use Rattle.std.specs.Prelude.{◌≡◌, ℕ, ◌+◌, ◌<◌, ◌≤◌, true,
 use Rattle.teco_core.specs.Ascii.{is_line_end}
 use Rattle.teco_store.specs.State.{State}
 use Rattle.teco_store.specs.Page.{page_of, page_span, is_ended, form_feed_if, left_of, written, with_next_page, finished}
+use Rattle.teco_store.specs.declared.pages.TheConstants.{FORM_FEED}
 
 -- Where no number of lines ends a page, it is all that comes before the first form feed, and is ended where one is left.
 abbrev pub EndsAtFormFeedsAlone : Type 0
-EndsAtFormFeedsAlone = (left : List ℕ) → (page_of 0 left ≡ take_while (λ b. not (b == 12)) left)
+EndsAtFormFeedsAlone = (left : List ℕ) → (page_of 0 left ≡ take_while (λ b. not (b == FORM_FEED)) left)
     × (is_ended 0 left ≡ nat_lt (length (page_of 0 left)) (length left))
 
 -- Else it is a front of that, and has no more line ends than the number.

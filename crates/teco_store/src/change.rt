@@ -14,96 +14,105 @@ use teco_core::{CaseMode, Reg, Value};
 
 /// So many bytes of the text from a place on, and a place for the pointer.
 #[derive(Clone, Copy)]
-pub struct Place {
+pub struct TextSpan {
     pub at: u32,
-    pub there: u32,
+    pub len: u32,
     pub pointer: u32,
 }
 
-impl Place {
-    // The kind of a change that puts so many bytes there.
+impl TextSpan {
+    // The kind of a change that puts so many bytes in their place.
     fn kind(&self, came: usize) -> ChangeKind
-        ensures { result ≡ ChangeKind.Splice self.now.at self.now.there came }
+        ensures { result ≡ ChangeKind.Splice self.now.at self.now.len came }
     {
         ChangeKind::Splice {
             at: self.at as usize,
-            gone: self.there as usize,
+            gone: self.len as usize,
             came,
         }
     }
 }
 
-/// So many bytes of the input from a place on for the whole text, which is others of them, and a place for the pointer.
+/// So many bytes of the input from a place on for the whole text, and a place for the pointer. The text before is other bytes of the input.
 #[derive(Clone, Copy)]
 pub struct Loan {
     pub from: u32,
-    pub count: u32,
-    pub there_from: u32,
-    pub there: u32,
+    pub len: u32,
+    pub old_from: u32,
+    pub old_len: u32,
     pub pointer: u32,
 }
 
 impl Loan {
     // The kind of a change that lends them.
     fn kind(&self) -> ChangeKind
-        ensures { result ≡ ChangeKind.Splice 0 self.now.there self.now.count }
+        ensures { result ≡ ChangeKind.Splice 0 self.now.old_len self.now.len }
     {
-        let (gone, came) = (self.there as usize, self.count as usize);
+        let (gone, came) = (self.old_len as usize, self.len as usize);
         ChangeKind::Splice { at: 0, gone, came }
     }
 }
 
 /// A part of the state with a value for it that lies in the change itself; or the place of a change that is held apart.
-///
-/// A byte goes in, or out, at the first place, and the pointer goes to the second.
 #[derive(Clone, Copy)]
-pub enum Small {
-    ByteIn(u32, u32, u8),
-    ByteOut(u32, u32),
+pub enum SmallChange {
+    InsertByte {
+        at: u32,
+        pointer: u32,
+        byte: u8,
+    },
+    RemoveByte {
+        at: u32,
+        pointer: u32,
+    },
     Point(u32),
     Number(Reg, i32),
-    Pages(u32, u32, bool),
+    Pages {
+        place: u32,
+        end: u32,
+        form_feed: bool,
+    },
     Found(bool),
     Done(bool),
     Mode(CaseMode),
-    Apart(usize),
+    HeldApart(usize),
 }
 
-impl Small {
+impl SmallChange {
     /// What it is for.
     pub fn kind(self) -> ChangeKind
         requires { IsHere self }
         ensures { result ≡ kind_of (small_turn self) }
     {
         match self {
-            Small::ByteIn(at, _, _) => ChangeKind::Splice {
+            SmallChange::InsertByte { at, .. } => ChangeKind::Splice {
                 at: at as usize,
                 gone: 0,
                 came: 1,
             },
-            Small::ByteOut(at, _) => ChangeKind::Splice {
+            SmallChange::RemoveByte { at, .. } => ChangeKind::Splice {
                 at: at as usize,
                 gone: 1,
                 came: 0,
             },
-            Small::Point(_) => ChangeKind::Point,
-            Small::Number(q, _) => ChangeKind::Number(q),
-            Small::Pages(_, _, _) => ChangeKind::Pages,
-            Small::Found(_) => ChangeKind::Found,
-            Small::Done(_) => ChangeKind::Done,
-            Small::Mode(_) => ChangeKind::Mode,
+            SmallChange::Point(_) => ChangeKind::Point,
+            SmallChange::Number(q, _) => ChangeKind::Number(q),
+            SmallChange::Pages { .. } => ChangeKind::Pages,
+            SmallChange::Found(_) => ChangeKind::Found,
+            SmallChange::Done(_) => ChangeKind::Done,
+            SmallChange::Mode(_) => ChangeKind::Mode,
             // Its value lies in it, by what the call requires.
-            Small::Apart(_) => unreachable!(),
+            SmallChange::HeldApart(_) => unreachable!(),
         }
     }
 }
 
 /// The part of the state that a change is for, with the value.
 #[derive(Drop)]
-pub enum Kind {
-    Plain(Small),
-    Splice(Place, Vec<u8>),
-    Short(Place, ShortText),
+pub enum PartValue {
+    Small(SmallChange),
+    Splice(TextSpan, Vec<u8>),
+    Short(TextSpan, ShortText),
     Lend(Loan),
     Text(Reg, Vec<u8>),
     Push(Value),
@@ -118,11 +127,11 @@ pub enum Kind {
 /// It holds the text that it takes the place of, and no other. Turned, it holds what stood there. A page that stands in the input as it
 /// was read is not held: the change names its place.
 #[derive(Drop)]
-pub struct Part {
-    kind: Kind,
+pub struct PartChange {
+    kind: PartValue,
 }
 
-impl Model for Part {
+impl Model for PartChange {
     ghost use Rattle.teco_store.specs.Turn.{Turn};
     ghost use Rattle.teco_store.specs.ChangeView.{turn_of, HasRoom};
 
@@ -133,13 +142,13 @@ impl Model for Part {
     ghost invariant = { λ p. HasRoom p.kind };
 }
 
-impl Part {
+impl PartChange {
     /// A value for a part of the state.
-    pub fn new(kind: Kind) -> Part
+    pub fn new(kind: PartValue) -> PartChange
         requires { HasRoom kind }
         ensures { result ≡ turn_of kind }
     {
-        Part { kind }
+        PartChange { kind }
     }
 
     /// The bytes of its text, if it has one.
@@ -147,15 +156,16 @@ impl Part {
         ensures { result ≡ held_by self.now }
     {
         match &self.kind {
-            Kind::Splice(_, held) | Kind::Text(_, held) | Kind::Search(Some(held)) => held.len(),
-            Kind::Short(_, held) => held.len(),
-            Kind::Push(value) | Kind::PutBack(_, value) => value.text.len(),
-            Kind::Plain(Small::ByteIn(_, _, _)) => 1,
-            Kind::Plain(_)
-            | Kind::Lend(_)
-            | Kind::TakeOff
-            | Kind::PopInto(_)
-            | Kind::Search(None) => 0,
+            PartValue::Splice(_, held) | PartValue::Text(_, held) => held.len(),
+            PartValue::Search(Some(held)) => held.len(),
+            PartValue::Short(_, held) => held.len(),
+            PartValue::Push(value) | PartValue::PutBack(_, value) => value.text.len(),
+            PartValue::Small(SmallChange::InsertByte { .. }) => 1,
+            PartValue::Small(_)
+            | PartValue::Lend(_)
+            | PartValue::TakeOff
+            | PartValue::PopInto(_)
+            | PartValue::Search(None) => 0,
         }
     }
 
@@ -164,15 +174,15 @@ impl Part {
         ensures { result ≡ kind_of self.now }
     {
         match &self.kind {
-            Kind::Plain(small) => small.kind(),
-            Kind::Splice(place, held) => place.kind(held.len()),
-            Kind::Short(place, held) => place.kind(held.len()),
-            Kind::Lend(loan) => loan.kind(),
-            Kind::Text(q, _) => ChangeKind::Text(*q),
-            Kind::Push(_) | Kind::TakeOff => ChangeKind::Push,
-            Kind::PopInto(q) => ChangeKind::Pop(*q),
-            Kind::PutBack(q, _) => ChangeKind::Pop(*q),
-            Kind::Search(_) => ChangeKind::Search,
+            PartValue::Small(small) => small.kind(),
+            PartValue::Splice(place, held) => place.kind(held.len()),
+            PartValue::Short(place, held) => place.kind(held.len()),
+            PartValue::Lend(loan) => loan.kind(),
+            PartValue::Text(q, _) => ChangeKind::Text(*q),
+            PartValue::Push(_) | PartValue::TakeOff => ChangeKind::Push,
+            PartValue::PopInto(q) => ChangeKind::Pop(*q),
+            PartValue::PutBack(q, _) => ChangeKind::Pop(*q),
+            PartValue::Search(_) => ChangeKind::Search,
         }
     }
 
@@ -182,7 +192,7 @@ impl Part {
         ensures editor { editor.new ≡ full_after self.old editor.old }
         ensures part { self.new ≡ turn_after self.old editor.old.body }
     {
-        let held = mem::replace(&mut self.kind, Kind::TakeOff);
+        let held = mem::replace(&mut self.kind, PartValue::TakeOff);
         self.kind = editor.put(held);
     }
 }
@@ -191,7 +201,7 @@ impl Part {
 #[derive(Drop)]
 pub struct Change {
     step: u64,
-    part: Part,
+    part: PartChange,
 }
 
 const _: () = prove!(size_of::<Change>() <= 48);
@@ -206,18 +216,18 @@ impl Model for Change {
 
 impl Change {
     /// A value for a part of the state.
-    pub fn new(step: u64, part: Part) -> Change
+    pub fn new(step: u64, part: PartChange) -> Change
         ensures { result ≡ record { step = step; turn = part } }
     {
         Change { step, part }
     }
 
     /// One whose value lies in it.
-    pub fn small(step: u64, small: Small) -> Change
+    pub fn small(step: u64, small: SmallChange) -> Change
         requires { IsHere small }
         ensures { result ≡ record { step = step; turn = small_turn small } }
     {
-        Change::new(step, Part::new(Kind::Plain(small)))
+        Change::new(step, PartChange::new(PartValue::Small(small)))
     }
 
     /// The steps that were done before it.

@@ -15,6 +15,7 @@ fn hold(buffer: &GapBuffer, at: usize, there: usize, held: &mut Vec<u8>)
     ensures items { held.new.items ≡ held.old.items ++ take there (drop at (text buffer.now)) }
     ensures room { vec_capacity held.old ≤ vec_capacity held.new }
 {
+    // This shows that the text has less than 2^63 bytes.
     let _cap = buffer.cap();
     let (before, after) = buffer.halves();
     let (before, after) = part(before, after, at, at + there);
@@ -39,6 +40,7 @@ pub(crate) fn exchange(
     ensures held { result.items ≡ take there (drop at (text buffer.old)) }
     ensures room { length ins.now + there ≤ vec_capacity result }
 {
+    // This shows that the text has less than 2^63 bytes.
     let _cap = buffer.cap();
     hold(buffer, at, there, &mut held);
     buffer.splice(at, there, ins);
@@ -79,6 +81,7 @@ pub(crate) fn swap_bytes(
     ensures held { result.items ≡ take there (drop at (text buffer.old)) }
     ensures room { length held.items + there ≤ vec_capacity result }
 {
+    // This shows that the text has less than 2^63 bytes.
     let _cap = buffer.cap();
     let count = held.len();
     hold(buffer, at, there, &mut held);

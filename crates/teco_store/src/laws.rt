@@ -10,6 +10,7 @@ use crate::editor::Editor;
 pub fn editor_laws(editor: &Editor)
     ensures sound { IsSound editor.now.room (length editor.now.stored) editor.now.body }
 {
+    // This shows that what the editor holds is within its limits.
     let _shown = editor.shown();
 }
 

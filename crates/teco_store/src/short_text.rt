@@ -35,6 +35,7 @@ impl ShortText {
         requires short { count ≤ SHORT_LIMIT }
         ensures { result ≡ take count (drop at (text buffer.now)) }
     {
+        // This shows that the text has less than 2^63 bytes.
         let _cap = buffer.cap();
         let mut bytes = [0; SHORT_LIMIT];
         for i in 0..count {

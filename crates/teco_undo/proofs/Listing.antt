@@ -6,57 +6,57 @@ use Rattle.teco_store.specs.ChangeView.{small_turn, IsHere}
 use Rattle.teco_undo.specs.Listing.{ChangeListing, no_note, turn_in, note_of_slot, IsNextApart, next_after, AreInPlace, listed_in, IsChangeListing}
 use Rattle.teco_store.specs.State.{Body}
 use Rattle.teco_store.specs.Turn.{Turn, TakeOff, Note, turn_after, note_after}
-use Rattle.teco_store.specs.declared.change.Small.{Small}
-use Rattle.teco_store.specs.declared.change.Small.TheVariants.{ByteIn, ByteOut, Point, Number, Pages, Found, Done, Mode, Apart}
+use Rattle.teco_store.specs.declared.change.SmallChange.{SmallChange}
+use Rattle.teco_store.specs.declared.change.SmallChange.TheVariants.{InsertByte, RemoveByte, Point, Number, Pages, Found, Done, Mode, HeldApart}
 use Rattle.teco_undo.specs.declared.change_list.Slot.{Slot}
 use Rattle.teco_undo.specs.declared.change_list.ChangeList.TheInside.{Inside}
 
 -- a slot holds its value itself, or is of one that is held apart
-where_held : (s : Small) → IsHere s ⊎ ((k : ℕ) × (s ≡ Apart k))
-where_held (ByteIn at pointer byte) = inl tt
-where_held (ByteOut at pointer) = inl tt
+where_held : (s : SmallChange) → IsHere s ⊎ ((k : ℕ) × (s ≡ HeldApart k))
+where_held (InsertByte at pointer byte) = inl tt
+where_held (RemoveByte at pointer) = inl tt
 where_held (Point pointer) = inl tt
 where_held (Number q number) = inl tt
 where_held (Pages place output form_feed) = inl tt
 where_held (Found found) = inl tt
 where_held (Done done) = inl tt
 where_held (Mode mode) = inl tt
-where_held (Apart k) = inr (k, refl)
+where_held (HeldApart k) = inr (k, refl)
 
-pub here_turn : (xs : List Turn) (s : Small) → IsHere s → turn_in xs s ≡ small_turn s
-here_turn xs (ByteIn at pointer byte) h = refl
-here_turn xs (ByteOut at pointer) h = refl
+pub here_turn : (xs : List Turn) (s : SmallChange) → IsHere s → turn_in xs s ≡ small_turn s
+here_turn xs (InsertByte at pointer byte) h = refl
+here_turn xs (RemoveByte at pointer) h = refl
 here_turn xs (Point pointer) h = refl
 here_turn xs (Number q number) h = refl
 here_turn xs (Pages place output form_feed) h = refl
 here_turn xs (Found found) h = refl
 here_turn xs (Done done) h = refl
 here_turn xs (Mode mode) h = refl
-here_turn xs (Apart k) h = absurd h
+here_turn xs (HeldApart k) h = absurd h
 
-here_next : (n : ℕ) (s : Small) → IsHere s → next_after n s ≡ n
-here_next n (ByteIn at pointer byte) h = refl
-here_next n (ByteOut at pointer) h = refl
+here_next : (n : ℕ) (s : SmallChange) → IsHere s → next_after n s ≡ n
+here_next n (InsertByte at pointer byte) h = refl
+here_next n (RemoveByte at pointer) h = refl
 here_next n (Point pointer) h = refl
 here_next n (Number q number) h = refl
 here_next n (Pages place output form_feed) h = refl
 here_next n (Found found) h = refl
 here_next n (Done done) h = refl
 here_next n (Mode mode) h = refl
-here_next n (Apart k) h = absurd h
+here_next n (HeldApart k) h = absurd h
 
-here_is_next : (n : ℕ) (s : Small) → IsHere s → IsNextApart n s
-here_is_next n (ByteIn at pointer byte) h = tt
-here_is_next n (ByteOut at pointer) h = tt
+here_is_next : (n : ℕ) (s : SmallChange) → IsHere s → IsNextApart n s
+here_is_next n (InsertByte at pointer byte) h = tt
+here_is_next n (RemoveByte at pointer) h = tt
 here_is_next n (Point pointer) h = tt
 here_is_next n (Number q number) h = tt
 here_is_next n (Pages place output form_feed) h = tt
 here_is_next n (Found found) h = tt
 here_is_next n (Done done) h = tt
 here_is_next n (Mode mode) h = tt
-here_is_next n (Apart k) h = absurd h
+here_is_next n (HeldApart k) h = absurd h
 
-next_le : (n : ℕ) (s : Small) → n ≤ next_after n s
+next_le : (n : ℕ) (s : SmallChange) → n ≤ next_after n s
 next_le n s = elim (where_held s) [
   | inl h ↦ let e = here_next n s h in omega arith
   | inr p ↦ let e : next_after n s ≡ suc n = ap (next_after n) p.1 in omega arith
@@ -70,11 +70,11 @@ end_le n (s ∷ slots) end h =
     omega arith
 
 -- The first of the slots is of one that is held apart: it has the next number.
-first_apart : (n k : ℕ) (s : Slot) (slots : List Slot) (end : ℕ) → AreInPlace n (s ∷ slots) end → s.small ≡ Apart k → (k ≡ n) × AreInPlace (suc n) slots end
-first_apart n k s slots end h e = (subst (IsNextApart n) e h.0, subst (λ (x : Small). AreInPlace (next_after n x) slots end) e h.1)
+first_apart : (n k : ℕ) (s : Slot) (slots : List Slot) (end : ℕ) → AreInPlace n (s ∷ slots) end → s.small ≡ HeldApart k → (k ≡ n) × AreInPlace (suc n) slots end
+first_apart n k s slots end h e = (subst (IsNextApart n) e h.0, subst (λ (x : SmallChange). AreInPlace (next_after n x) slots end) e h.1)
 
 -- The number of one that is held apart is within bounds.
-pub place_within : (n : ℕ) (slots : List Slot) (end i k : ℕ) (d : Slot) → AreInPlace n slots end → i < length slots → (get_or slots i d).small ≡ Apart k
+pub place_within : (n : ℕ) (slots : List Slot) (end i k : ℕ) (d : Slot) → AreInPlace n slots end → i < length slots → (get_or slots i d).small ≡ HeldApart k
     → (n ≤ k) × (k < end)
 place_within n [] end i k d h lt e = absurd (omega arith)
 place_within n (s ∷ slots) end zero k d h lt e =
@@ -89,13 +89,13 @@ place_within n (s ∷ slots) end (suc i) k d h lt e =
     (omega arith, rest.1)
 
 -- one slot, with others held apart
-same_turn : (n : ℕ) (s : Small) (end : ℕ) (xs ys : List Turn) → IsNextApart n s → next_after n s ≤ end
+same_turn : (n : ℕ) (s : SmallChange) (end : ℕ) (xs ys : List Turn) → IsNextApart n s → next_after n s ≤ end
     → ((k : ℕ) → n ≤ k → k < end → get_or xs k TakeOff ≡ get_or ys k TakeOff) → turn_in xs s ≡ turn_in ys s
 same_turn n s end xs ys next le same = elim (where_held s) [
   | inl h ↦ here_turn xs s h ∙ sym (here_turn ys s h)
   | inr p ↦
       let is : p.0 ≡ n = subst (IsNextApart n) p.1 next in
-      let lt : suc n ≤ end = subst (λ (x : Small). next_after n x ≤ end) p.1 le in
+      let lt : suc n ≤ end = subst (λ (x : SmallChange). next_after n x ≤ end) p.1 le in
       ap (turn_in xs) p.1 ∙ same p.0 (omega arith) (omega arith) ∙ sym (ap (turn_in ys) p.1)
 ]
 
@@ -114,7 +114,7 @@ same_notes n (s ∷ slots) end xs ys h same =
 
 -- Another is held apart in the place of one: its slot alone is for something else.
 pub notes-set_apart : (n : ℕ) (slots : List Slot) (end i k : ℕ) (d : Slot) (xs : List Turn) (t : Turn) → AreInPlace n slots end → i < length slots
-    → (get_or slots i d).small ≡ Apart k → end ≤ length xs
+    → (get_or slots i d).small ≡ HeldApart k → end ≤ length xs
     → map (note_of_slot (set xs k t)) slots ≡ set (map (note_of_slot xs) slots) i (note_of (get_or slots i d).step t)
 notes-set_apart n [] end i k d xs t h lt e le = absurd (omega arith)
 notes-set_apart n (s ∷ slots) end zero k d xs t h lt e le =
@@ -151,7 +151,7 @@ in_place-push_here n [] end y h new = (here_is_next n y.small new, here_next n y
 in_place-push_here n (s ∷ slots) end y h new = (h.0, in_place-push_here (next_after n s.small) slots end y h.1 new)
 
 pub in_place-push_apart : (n : ℕ) (slots : List Slot) (end : ℕ) (step : ℕ) → AreInPlace n slots end
-    → (let y : Slot = record { step = step; small = Apart end } in AreInPlace n (slots ++ y ∷ []) (suc end))
+    → (let y : Slot = record { step = step; small = HeldApart end } in AreInPlace n (slots ++ y ∷ []) (suc end))
 in_place-push_apart n [] end step h = (sym h, ap suc h)
 in_place-push_apart n (s ∷ slots) end step h = (h.0, in_place-push_apart (next_after n s.small) slots end step h.1)
 
@@ -160,7 +160,7 @@ pub in_place-pop_here : (n : ℕ) (slots : List Slot) (end : ℕ) (y : Slot) →
 in_place-pop_here n [] end y h old = sym (here_next n y.small old) ∙ h.1
 in_place-pop_here n (s ∷ slots) end y h old = (h.0, in_place-pop_here (next_after n s.small) slots end y h.1 old)
 
-pub in_place-pop_apart : (n : ℕ) (slots : List Slot) (end k : ℕ) (y : Slot) → AreInPlace n (slots ++ y ∷ []) end → y.small ≡ Apart k
+pub in_place-pop_apart : (n : ℕ) (slots : List Slot) (end k : ℕ) (y : Slot) → AreInPlace n (slots ++ y ∷ []) end → y.small ≡ HeldApart k
     → AreInPlace n slots k × (suc k ≡ end)
 in_place-pop_apart n [] end k y h e =
     let first = first_apart n k y [] end h e in
@@ -186,23 +186,23 @@ pub seen_here : (c : Inside) (r : ChangeListing) (i : ℕ) (d : Slot) → listed
     → get_or r.items i no_note ≡ note_of d.step (small_turn d.small)
 seen_here c r i d view lt is here = seen_read c r i d view lt is ∙ ap (note_of d.step) (here_turn c.apart.items d.small here)
 
-pub apart_within : (c : Inside) (r : ChangeListing) (i k : ℕ) (d : Slot) → listed_in c ≡ r → IsChangeListing c → i < length r.items → d ≡ get_or c.slots.items i d → d.small ≡ Apart k
+pub apart_within : (c : Inside) (r : ChangeListing) (i k : ℕ) (d : Slot) → listed_in c ≡ r → IsChangeListing c → i < length r.items → d ≡ get_or c.slots.items i d → d.small ≡ HeldApart k
     → k < length c.apart.items
 apart_within c r i k d view placed lt is e =
     (place_within 0 c.slots.items (length c.apart.items) i k d placed (seen_within c r i view lt) (ap (λ (s : Slot). s.small) (sym is) ∙ e)).1
 
-pub seen_apart : (c : Inside) (r : ChangeListing) (i k : ℕ) (d : Slot) (t : Turn) → listed_in c ≡ r → IsChangeListing c → i < length r.items → d ≡ get_or c.slots.items i d → d.small ≡ Apart k
+pub seen_apart : (c : Inside) (r : ChangeListing) (i k : ℕ) (d : Slot) (t : Turn) → listed_in c ≡ r → IsChangeListing c → i < length r.items → d ≡ get_or c.slots.items i d → d.small ≡ HeldApart k
     → t ≡ get_or c.apart.items k t → get_or r.items i no_note ≡ note_of d.step t
 seen_apart c r i k d t view placed lt is e there =
     seen_read c r i d view lt is
     ∙ ap (note_of d.step) (ap (turn_in c.apart.items) e ∙ get_or_default c.apart.items k TakeOff t (apart_within c r i k d view placed lt is e) ∙ sym there)
 
 pub turned_apart : (c : Inside) (r : ChangeListing) (i k : ℕ) (d : Slot) (t u : Turn) (b : Body) → listed_in c ≡ r → IsChangeListing c → i < length r.items → d ≡ get_or c.slots.items i d
-    → d.small ≡ Apart k → t ≡ get_or c.apart.items k t → u ≡ turn_after t b
+    → d.small ≡ HeldApart k → t ≡ get_or c.apart.items k t → u ≡ turn_after t b
     → map (note_of_slot (set c.apart.items k u)) c.slots.items ≡ set r.items i (note_after (get_or r.items i no_note) b)
 turned_apart c r i k d t u b view placed lt is e there turned =
     let slot : Slot = get_or c.slots.items i d in
-    let at : slot.small ≡ Apart k = ap (λ (s : Slot). s.small) (sym is) ∙ e in
+    let at : slot.small ≡ HeldApart k = ap (λ (s : Slot). s.small) (sym is) ∙ e in
     let notes = notes-set_apart 0 c.slots.items (length c.apart.items) i k d c.apart.items u placed (seen_within c r i view lt) at (omega arith) in
     let seen : get_or r.items i no_note ≡ note_of d.step t = seen_apart c r i k d t view placed lt is e there in
     notes ∙ ap (λ (x : ChangeListing). set x.items i (note_of slot.step u)) view
@@ -233,10 +233,10 @@ in_place-turned c i d y placed is old new =
 
 -- One more that is held apart.
 pub notes-push_apart : (slots : List Slot) (xs : List Turn) (step : ℕ) (t : Turn) → AreInPlace 0 slots (length xs)
-    → (let y : Slot = record { step = step; small = Apart (length xs) } in map (note_of_slot (xs ++ t ∷ [])) (slots ++ y ∷ []))
+    → (let y : Slot = record { step = step; small = HeldApart (length xs) } in map (note_of_slot (xs ++ t ∷ [])) (slots ++ y ∷ []))
     ≡ map (note_of_slot xs) slots ++ note_of step t ∷ []
 notes-push_apart slots xs step t placed =
-    let y : Slot = record { step = step; small = Apart (length xs) } in
+    let y : Slot = record { step = step; small = HeldApart (length xs) } in
     let early = same_notes 0 slots (length xs) (xs ++ t ∷ []) xs placed (λ k low lt. get_or_append_left xs (t ∷ []) TakeOff k lt) in
     map-append (note_of_slot (xs ++ t ∷ [])) slots (y ∷ []) ∙ ap (λ (ns : List Note). ns ++ note_of_slot (xs ++ t ∷ []) y ∷ []) early
     ∙ ap (λ (u : Turn). map (note_of_slot xs) slots ++ note_of step u ∷ []) (get_or-append_seam xs t [] TakeOff)
@@ -248,7 +248,7 @@ notes-push_here slots xs y here =
 
 -- One less, which was held apart.
 pub in_place-less : (slots rest : List Slot) (xs ys : List Turn) (t : Turn) (k : ℕ) (y : Slot) → AreInPlace 0 slots (length xs) → slots ≡ rest ++ y ∷ [] → xs ≡ ys ++ t ∷ []
-    → y.small ≡ Apart k → (k ≡ length ys) × AreInPlace 0 rest (length ys)
+    → y.small ≡ HeldApart k → (k ≡ length ys) × AreInPlace 0 rest (length ys)
 in_place-less slots rest xs ys t k y placed e f at =
     let less = in_place-pop_apart 0 rest (length xs) k y (subst (λ (ss : List Slot). AreInPlace 0 ss (length xs)) e placed) at in
     let n : length xs ≡ length ys + 1 = ap (λ (us : List Turn). length us) f ∙ length-append ys (t ∷ []) in
@@ -257,16 +257,16 @@ in_place-less slots rest xs ys t k y placed e f at =
     (is, subst (AreInPlace 0 rest) is less.0)
 
 pub notes-less : (slots rest : List Slot) (xs ys : List Turn) (t : Turn) (k : ℕ) (y : Slot) → AreInPlace 0 slots (length xs) → slots ≡ rest ++ y ∷ [] → xs ≡ ys ++ t ∷ []
-    → y.small ≡ Apart k → map (note_of_slot xs) slots ≡ map (note_of_slot ys) rest ++ note_of y.step t ∷ []
+    → y.small ≡ HeldApart k → map (note_of_slot xs) slots ≡ map (note_of_slot ys) rest ++ note_of y.step t ∷ []
 notes-less slots rest xs ys t k y placed e f at =
     let less = in_place-less slots rest xs ys t k y placed e f at in
-    let z : Slot = record { step = y.step; small = Apart (length ys) } in
-    let same : y ≡ z = ap (λ (s : Small). let x : Slot = record { step = y.step; small = s } in x) (at ∙ ap Apart less.0) in
+    let z : Slot = record { step = y.step; small = HeldApart (length ys) } in
+    let same : y ≡ z = ap (λ (s : SmallChange). let x : Slot = record { step = y.step; small = s } in x) (at ∙ ap HeldApart less.0) in
     ap (λ (us : List Turn). map (note_of_slot us) slots) f ∙ ap (map (note_of_slot (ys ++ t ∷ []))) (e ∙ ap (λ (s : Slot). rest ++ s ∷ []) same)
     ∙ notes-push_apart rest ys y.step t less.1
 
 -- None is held apart where a list begins with no slot of such a one.
-pub none_apart : (slots rest : List Slot) (xs : List Turn) (k : ℕ) (y : Slot) → AreInPlace 0 slots (length xs) → slots ≡ rest ++ y ∷ [] → y.small ≡ Apart k → 0 < length xs
+pub none_apart : (slots rest : List Slot) (xs : List Turn) (k : ℕ) (y : Slot) → AreInPlace 0 slots (length xs) → slots ≡ rest ++ y ∷ [] → y.small ≡ HeldApart k → 0 < length xs
 none_apart slots rest xs k y placed e at =
     let less = in_place-pop_apart 0 rest (length xs) k y (subst (λ (ss : List Slot). AreInPlace 0 ss (length xs)) e placed) at in
     let m : suc k ≡ length xs = less.1 in
@@ -278,12 +278,12 @@ pub record Pushed (slots slots' : List Slot) (xs xs' : List Turn) (step : ℕ) (
   pub notes : map (note_of_slot xs') slots' ≡ map (note_of_slot xs) slots ++ note_of step t ∷ []
 
 pub pushed_apart : (slots slots' : List Slot) (xs xs' : List Turn) (k step : ℕ) (t : Turn) → AreInPlace 0 slots (length xs) → k ≡ length xs
-    → slots' ≡ slots ++ (let y : Slot = record { step = step; small = Apart k } in y) ∷ [] → xs' ≡ xs ++ t ∷ [] → Pushed slots slots' xs xs' step t
+    → slots' ≡ slots ++ (let y : Slot = record { step = step; small = HeldApart k } in y) ∷ [] → xs' ≡ xs ++ t ∷ [] → Pushed slots slots' xs xs' step t
 pushed_apart slots slots' xs xs' k step t placed is e f =
     let size : suc (length xs) ≡ length (xs ++ t ∷ []) = let n = length-append xs (t ∷ []) in omega arith in
-    let whole : slots' ≡ slots ++ (let y : Slot = record { step = step; small = Apart (length xs) } in y) ∷ [] =
-    e ∙ ap (λ (n : ℕ). slots ++ (let y : Slot = record { step = step; small = Apart n } in y) ∷ []) is in
+    let whole : slots' ≡ slots ++ (let y : Slot = record { step = step; small = HeldApart (length xs) } in y) ∷ [] =
+    e ∙ ap (λ (n : ℕ). slots ++ (let y : Slot = record { step = step; small = HeldApart n } in y) ∷ []) is in
     rw (whole, f) (record {
-      in_place = subst (AreInPlace 0 (slots ++ (let y : Slot = record { step = step; small = Apart (length xs) } in y) ∷ [])) size (in_place-push_apart 0 slots (length xs) step placed);
+      in_place = subst (AreInPlace 0 (slots ++ (let y : Slot = record { step = step; small = HeldApart (length xs) } in y) ∷ [])) size (in_place-push_apart 0 slots (length xs) step placed);
       notes = notes-push_apart slots xs step t placed;
     })

@@ -3,8 +3,8 @@ use Rattle.std.specs.Prelude.{◌≡◌, ℕ, suc, ◌-◌, List, [], ◌∷◌,
 use Rattle.std.specs.Vec.{vec_capacity}
 use Rattle.teco_store.specs.ChangeView.{small_turn}
 use Rattle.teco_store.specs.Turn.{Turn, TakeOff, Note}
-use Rattle.teco_store.specs.declared.change.Small.{Small}
-use Rattle.teco_store.specs.declared.change.Small.TheVariants.{Apart}
+use Rattle.teco_store.specs.declared.change.SmallChange.{SmallChange}
+use Rattle.teco_store.specs.declared.change.SmallChange.TheVariants.{HeldApart}
 use Rattle.teco_undo.specs.declared.change_list.Slot.{Slot}
 use Rattle.teco_undo.specs.declared.change_list.ChangeList.TheInside.{Inside}
 
@@ -19,21 +19,21 @@ abbrev pub no_note : Note
 no_note = record { step = 0; turn = TakeOff }
 
 -- what a slot is for: by itself, or by the one of those held apart at its place
-abbrev pub turn_in : List Turn → Small → Turn
-turn_in apart (Apart place) = slice_index_or apart place TakeOff
+abbrev pub turn_in : List Turn → SmallChange → Turn
+turn_in apart (HeldApart place) = slice_index_or apart place TakeOff
 turn_in apart s = small_turn s
 
 abbrev pub note_of_slot : List Turn → Slot → Note
 note_of_slot apart s = record { step = s.step; turn = turn_in apart s.small }
 
 -- The next of those that are held apart, where the slot is of such a one, has the number `n`.
-abbrev pub IsNextApart : ℕ → Small → Type 0
-IsNextApart n (Apart place) = place ≡ n
+abbrev pub IsNextApart : ℕ → SmallChange → Type 0
+IsNextApart n (HeldApart place) = place ≡ n
 IsNextApart n s = Unit {0}
 
 -- the number of the one after it
-abbrev pub next_after : ℕ → Small → ℕ
-next_after n (Apart place) = suc n
+abbrev pub next_after : ℕ → SmallChange → ℕ
+next_after n (HeldApart place) = suc n
 next_after n s = n
 
 -- The places of those that are held apart are n, n + 1 and so on up to `end`, in the order of the slots.

@@ -10,14 +10,14 @@ ghost use Rattle.teco_store.specs.State.{Body};
 use std::alloc::Global;
 use std::marker::Model;
 use teco_core::NoMemory;
-use teco_store::change::{Part, Small};
+use teco_store::change::{PartChange, SmallChange};
 use teco_store::{Change, ChangeKind, Editor, change_laws};
 
 /// A change with the steps that were done before it was noted: what it holds, or the place of what is held apart.
 #[derive(Clone, Copy)]
 pub(crate) struct Slot {
     step: u64,
-    small: Small,
+    small: SmallChange,
 }
 
 const _: () = prove!(size_of::<Slot>() <= 24);
@@ -28,7 +28,7 @@ const _: () = prove!(size_of::<Slot>() <= 24);
 /// many more have room.
 pub struct ChangeList {
     slots: Vec<Slot>,
-    apart: Vec<Part>,
+    apart: Vec<PartChange>,
 }
 
 // Its parts go here, and a crate that lets changes go calls this.
@@ -80,8 +80,8 @@ impl ChangeList {
         ensures { result ≡ held_by (slice_index_or self.now.items i no_note).turn }
     {
         match self.slots[i].small {
-            Small::Apart(place) => self.apart[place].held(),
-            Small::ByteIn(_, _, _) => 1,
+            SmallChange::HeldApart(place) => self.apart[place].held(),
+            SmallChange::InsertByte { .. } => 1,
             _ => 0,
         }
     }
@@ -99,7 +99,7 @@ impl ChangeList {
     {
         change_laws();
         match self.slots[i].small {
-            Small::Apart(place) => self.apart[place].kind(),
+            SmallChange::HeldApart(place) => self.apart[place].kind(),
             small => small.kind(),
         }
     }
@@ -114,7 +114,7 @@ impl ChangeList {
             (note_after (slice_index_or self.old.items i no_note) editor.old.body) }
     {
         match self.slots[i].small {
-            Small::Apart(place) => self.apart[place].turn(editor),
+            SmallChange::HeldApart(place) => self.apart[place].turn(editor),
             small => self.slots[i].small = editor.put_small(small),
         }
     }
@@ -133,7 +133,7 @@ impl ChangeList {
 
     /// Notes a change whose value lies in it, at a place that was found. Takes no memory.
     #[inline(always)]
-    pub(crate) fn push(&mut self, step: u64, small: Small)
+    pub(crate) fn push(&mut self, step: u64, small: SmallChange)
         requires spare { 0 < self.old.spare }
         requires here { IsHere small }
         ensures items { self.new.items
@@ -145,14 +145,14 @@ impl ChangeList {
     }
 
     /// Notes a change that is held apart, at places that were found. Takes no memory.
-    pub(crate) fn push_apart(&mut self, step: u64, part: Part)
+    pub(crate) fn push_apart(&mut self, step: u64, part: PartChange)
         requires spare { 0 < self.old.spare }
         requires apart { 0 < self.old.apart }
         ensures items { self.new.items ≡ self.old.items ++ record { step = step; turn = part } ∷ [] }
         ensures spare { self.new.spare + 1 ≡ self.old.spare }
         ensures apart { self.new.apart + 1 ≡ self.old.apart }
     {
-        let small = Small::Apart(self.apart.len());
+        let small = SmallChange::HeldApart(self.apart.len());
         self.apart.push_reserved(part);
         self.slots.push_reserved(Slot { step, small });
     }
@@ -167,7 +167,7 @@ impl ChangeList {
             return None;
         };
         match slot.small {
-            Small::Apart(_) => match self.apart.pop() {
+            SmallChange::HeldApart(_) => match self.apart.pop() {
                 Some(part) => Some(Change::new(slot.step, part)),
                 // The last of those held apart is there, by what always holds of the list.
                 None => unreachable!(),

@@ -17,7 +17,7 @@ use crate::change_list::ChangeList;
 use std::marker::Model;
 use std::mem;
 use teco_core::{NoMemory, TEXT_LIMIT};
-use teco_store::change::{Kind, Part, Small};
+use teco_store::change::{PartChange, PartValue, SmallChange};
 use teco_store::{Editor, SHORT_LIMIT};
 
 /// An editor whose changes are noted: each call of `Desk` finds all memory first and then makes its changes.
@@ -66,6 +66,7 @@ impl Recorder {
         ensures follows { (t : Trail) → t.steps ≡ 0 → t.states 0 ≡ state_of self.old.full
             → t.floor ≤ self.old.full.room → Follows self.new t }
     {
+        // This shows that what the editor holds is within its limits.
         let _shown = self.editor.shown();
         self.editor.forget_beyond();
         self.entry.clear();
@@ -106,6 +107,7 @@ impl Recorder {
         ensures with_room { changes ≤ self.old.spare → apart ≤ self.old.apart → IsOk result }
         ensures keeps { StillFollows self.old self.new }
     {
+        // This shows that what the editor holds is within its limits.
         let _shown = self.editor.shown();
         self.entry.reserve(changes, apart)
     }
@@ -120,6 +122,7 @@ impl Recorder {
         ensures sound { IsSound self.new.full.room (length self.new.full.stored) self.new.full.body }
         ensures keeps { StillFollows self.old self.new }
     {
+        // This shows that what the editor holds is within its limits.
         let _shown = self.editor.shown();
         self.editor.reserve(len)
     }
@@ -191,7 +194,7 @@ impl Recorder {
 
     // Puts a value that lies in its change in its place, and notes what stood there.
     #[inline(always)]
-    fn note(&mut self, small: Small)
+    fn note(&mut self, small: SmallChange)
         requires spare { 0 < self.old.spare }
         requires here { IsHere small }
         requires fits { FitsFull (small_turn small) self.old.full }
@@ -207,7 +210,7 @@ impl Recorder {
     }
 
     // Puts a value in its place, and notes what stood there, which is held apart.
-    fn note_apart(&mut self, kind: Kind)
+    fn note_apart(&mut self, kind: PartValue)
         requires spare { 0 < self.old.spare }
         requires apart { 0 < self.old.apart }
         requires room { HasRoom kind }
@@ -220,7 +223,7 @@ impl Recorder {
         ensures goes { FollowsAfterChanges (weight (turn_of kind) self.old.full.body) 1 self.old self.new }
     {
         let held = self.editor.put(kind);
-        self.entry.push_apart(self.done, Part::new(held));
+        self.entry.push_apart(self.done, PartChange::new(held));
     }
 
     // Puts `ins` for the `there` bytes at `at`, and notes those that stood there in `held`, which is empty.
@@ -239,9 +242,10 @@ impl Recorder {
         ensures apart { self.new.apart + 1 ≡ self.old.apart }
         ensures goes { FollowsAfterChanges (there + length ins.now) 1 self.old self.new }
     {
+        // This shows that what the editor holds is within its limits.
         let _shown = self.editor.shown();
         let held = self.editor.exchange(at, there, ins, pointer, held);
-        self.entry.push_apart(self.done, Part::new(held));
+        self.entry.push_apart(self.done, PartChange::new(held));
     }
 
     // Puts a byte in at `at`, or takes it out there, and notes that in the change itself.
@@ -257,11 +261,19 @@ impl Recorder {
         ensures spare { self.new.spare + 1 ≡ self.old.spare }
         ensures goes { FollowsAfterChanges (there + length ins.now) 1 self.old self.new }
     {
+        // This shows that what the editor holds is within its limits.
         let _shown = self.editor.shown();
         if there == 0 {
-            self.note(Small::ByteIn(at as u32, pointer as u32, ins[0]));
+            self.note(SmallChange::InsertByte {
+                at: at as u32,
+                pointer: pointer as u32,
+                byte: ins[0],
+            });
         } else {
-            self.note(Small::ByteOut(at as u32, pointer as u32));
+            self.note(SmallChange::RemoveByte {
+                at: at as u32,
+                pointer: pointer as u32,
+            });
         }
     }
 
@@ -279,12 +291,13 @@ impl Recorder {
         ensures spare { self.new.spare + 1 ≡ self.old.spare }
         ensures goes { FollowsAfterChanges (there + length ins.now) 1 self.old self.new }
     {
+        // This shows that what the editor holds is within its limits.
         let _shown = self.editor.shown();
         if there + ins.len() == 1 {
             self.exchange_byte(at, there, ins, pointer);
         } else {
             let held = self.editor.exchange_short(at, there, ins, pointer);
-            self.entry.push_apart(self.done, Part::new(held));
+            self.entry.push_apart(self.done, PartChange::new(held));
         }
     }
 

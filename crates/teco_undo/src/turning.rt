@@ -19,6 +19,7 @@ pub fn revert(editor: &mut Editor, change: &mut Change)
     ensures editor_again { full_after change.new.turn editor.new ≡ editor.old }
     ensures change_again { note_after change.new editor.new.body ≡ change.old }
 {
+    // This shows that what the editor holds is within its limits.
     let _shown = editor.shown();
     change.turn(editor);
 }
@@ -34,6 +35,7 @@ pub fn apply(editor: &mut Editor, change: &mut Change)
     ensures editor_again { full_after change.new.turn editor.new ≡ editor.old }
     ensures change_again { note_after change.new editor.new.body ≡ change.old }
 {
+    // This shows that what the editor holds is within its limits.
     let _shown = editor.shown();
     change.turn(editor);
 }
@@ -47,6 +49,7 @@ fn revert_each(editor: &mut Editor, entry: &mut ChangeList)
     let mut i = entry.len();
     while i > 0 {
         i -= 1;
+        // This shows that what the editor holds is within its limits.
         let _shown = editor.shown();
         entry.turn(i, editor);
     }
@@ -76,6 +79,7 @@ pub fn revert_all(editor: &mut Editor, entry: &mut ChangeList)
     ensures sound { IsSound editor.new.room (length editor.new.stored) editor.new.body }
     ensures end { editor.new.body.output ≤ editor.old.body.output }
 {
+    // This shows that what the editor holds is within its limits.
     let _shown = editor.shown();
     revert_each(editor, entry);
 }
@@ -93,6 +97,7 @@ pub fn apply_all(editor: &mut Editor, entry: &mut ChangeList)
     ensures sound { IsSound editor.new.room (length editor.new.stored) editor.new.body }
     ensures end { editor.old.body.output ≤ editor.new.body.output }
 {
+    // This shows that what the editor holds is within its limits.
     let _shown = editor.shown();
     apply_each(editor, entry);
 }
@@ -113,6 +118,7 @@ pub fn rewind(editor: &mut Editor, entry: &mut ChangeList, steps: u64)
         if entry.step(kept) < steps {
             break;
         }
+        // This shows that what the editor holds is within its limits.
         let _shown = editor.shown();
         entry.turn(kept, editor);
         drop(entry.pop());

@@ -2,11 +2,11 @@
 ghost use Rattle.std.specs.Prelude.{◌≡◌, ◌+◌, ◌≤◌, [], length};
 ghost use Rattle.std.specs.Vec.{vec_capacity};
 ghost use Rattle.teco_store.specs.ChangeView.{small_turn, turn_of, HasRoom, IsHere};
-ghost use Rattle.teco_store.specs.declared.change.Kind.TheVariants.{Splice, Lend, PopInto, PutBack};
+ghost use Rattle.teco_store.specs.declared.change.PartValue.TheVariants.{Splice, Lend, PopInto, PutBack};
 ghost use Rattle.teco_store.specs.Turn as turn;
 ghost use Rattle.teco_store.specs.Turn.{turn_after, full_after, FitsFull};
 
-use crate::change::{Kind, Loan, Place, Small};
+use crate::change::{Loan, PartValue, SmallChange, TextSpan};
 use crate::editor::Editor;
 use crate::exchange::{exchange, exchange_short, swap_bytes};
 use crate::short_text::SHORT_LIMIT;
@@ -18,7 +18,7 @@ impl Editor {
     ///
     /// In line, since a caller's value is mostly known: then nothing is matched, and nothing goes through memory.
     #[inline(always)]
-    pub fn put_small(&mut self, small: Small) -> Small
+    pub fn put_small(&mut self, small: SmallChange) -> SmallChange
         requires fits { FitsFull (small_turn small) self.old }
         requires here { IsHere small }
         ensures editor { self.new ≡ full_after (small_turn small) self.old }
@@ -26,41 +26,55 @@ impl Editor {
         ensures here { IsHere result }
     {
         match small {
-            Small::ByteIn(at, pointer, byte) => {
+            SmallChange::InsertByte { at, pointer, byte } => {
                 self.text.splice(at as usize, 0, &[byte]);
                 let there = mem::replace(&mut self.pointer, pointer as usize);
-                Small::ByteOut(at, there as u32)
+                SmallChange::RemoveByte {
+                    at,
+                    pointer: there as u32,
+                }
             }
-            Small::ByteOut(at, pointer) => {
+            SmallChange::RemoveByte { at, pointer } => {
                 let byte = self.text.get(at as usize);
                 self.text.splice(at as usize, 1, &[]);
                 let there = mem::replace(&mut self.pointer, pointer as usize);
-                Small::ByteIn(at, there as u32, byte)
+                SmallChange::InsertByte {
+                    at,
+                    pointer: there as u32,
+                    byte,
+                }
             }
-            Small::Point(pointer) => {
-                Small::Point(mem::replace(&mut self.pointer, pointer as usize) as u32)
+            SmallChange::Point(pointer) => {
+                SmallChange::Point(mem::replace(&mut self.pointer, pointer as usize) as u32)
             }
-            Small::Number(q, number) => {
+            SmallChange::Number(q, number) => {
                 let registers = &mut self.registers;
                 let there = registers.number(q);
                 registers.set_number(q, number);
-                Small::Number(q, there)
+                SmallChange::Number(q, there)
             }
-            Small::Pages(place, output, form_feed) => Small::Pages(
-                mem::replace(&mut self.place, place as usize) as u32,
-                mem::replace(&mut self.shown, output as usize) as u32,
-                mem::replace(&mut self.form_feed, form_feed),
-            ),
-            Small::Found(found) => Small::Found(mem::replace(&mut self.last_found, found)),
-            Small::Done(done) => Small::Done(mem::replace(&mut self.done, done)),
-            Small::Mode(mode) => Small::Mode(mem::replace(&mut self.case_mode, mode)),
+            SmallChange::Pages {
+                place,
+                end,
+                form_feed,
+            } => SmallChange::Pages {
+                place: mem::replace(&mut self.place, place as usize) as u32,
+                end: mem::replace(&mut self.shown, end as usize) as u32,
+                form_feed: mem::replace(&mut self.form_feed, form_feed),
+            },
+            SmallChange::Found(found) => SmallChange::Found(mem::replace(
+                &mut self.last_found,
+                found,
+            )),
+            SmallChange::Done(done) => SmallChange::Done(mem::replace(&mut self.done, done)),
+            SmallChange::Mode(mode) => SmallChange::Mode(mem::replace(&mut self.case_mode, mode)),
             // The value lies in it, by what the call requires.
-            Small::Apart(_) => unreachable!(),
+            SmallChange::HeldApart(_) => unreachable!(),
         }
     }
 
     /// Puts a value in its place, and gives what stood there. Takes no memory.
-    pub fn put(&mut self, kind: Kind) -> Kind
+    pub fn put(&mut self, kind: PartValue) -> PartValue
         requires fits { FitsFull (turn_of kind) self.old }
         requires room { HasRoom kind }
         ensures editor { self.new ≡ full_after (turn_of kind) self.old }
@@ -68,70 +82,65 @@ impl Editor {
         ensures room { HasRoom result }
     {
         match kind {
-            Kind::Plain(small) => Kind::Plain(self.put_small(small)),
-            Kind::Splice(place, held) => self.put_splice(place, held),
-            Kind::Short(place, held) => self.exchange_short(
+            PartValue::Small(small) => PartValue::Small(self.put_small(small)),
+            PartValue::Splice(place, held) => self.put_splice(place, held),
+            PartValue::Short(place, held) => self.exchange_short(
                 place.at as usize,
-                place.there as usize,
+                place.len as usize,
                 held.as_slice(),
                 place.pointer as usize,
             ),
-            Kind::Lend(loan) => self.put_lent(loan),
-            Kind::Text(q, mut held) => {
+            PartValue::Lend(loan) => self.put_lent(loan),
+            PartValue::Text(q, mut held) => {
                 self.registers.swap_text(q, &mut held);
-                Kind::Text(q, held)
+                PartValue::Text(q, held)
             }
-            Kind::Push(value) => {
+            PartValue::Push(value) => {
                 self.pushed.push(value);
-                Kind::TakeOff
+                PartValue::TakeOff
             }
-            Kind::TakeOff => Kind::Push(self.pushed.pop()),
-            Kind::PopInto(q) => self.put_popped(q),
-            Kind::PutBack(q, value) => self.put_back(q, value),
-            Kind::Search(held) => Kind::Search(mem::replace(&mut self.last_search, held)),
+            PartValue::TakeOff => PartValue::Push(self.pushed.pop()),
+            PartValue::PopInto(q) => self.put_popped(q),
+            PartValue::PutBack(q, value) => self.put_back(q, value),
+            PartValue::Search(held) => PartValue::Search(mem::replace(&mut self.last_search, held)),
         }
     }
 
     // Puts bytes of the text in their place.
-    fn put_splice(&mut self, place: Place, held: Vec<u8>) -> Kind
+    fn put_splice(&mut self, place: TextSpan, held: Vec<u8>) -> PartValue
         requires fits { FitsFull (turn_of (Splice place held)) self.old }
         requires room { HasRoom (Splice place held) }
         ensures editor { self.new ≡ full_after (turn_of (Splice place held)) self.old }
         ensures kind { turn_of result ≡ turn_after (turn_of (Splice place held)) self.old.body }
         ensures room { HasRoom result }
     {
-        let there = Place {
+        let there = TextSpan {
             at: place.at,
-            there: held.len() as u32,
+            len: held.len() as u32,
             pointer: self.pointer as u32,
         };
-        let held = swap_bytes(
-            &mut self.text,
-            place.at as usize,
-            place.there as usize,
-            held,
-        );
+        let held = swap_bytes(&mut self.text, place.at as usize, place.len as usize, held);
         self.pointer = place.pointer as usize;
-        Kind::Splice(there, held)
+        PartValue::Splice(there, held)
     }
 
     // Puts bytes of the input for the whole text, and gives where in the input that stands.
-    fn put_lent(&mut self, loan: Loan) -> Kind
+    fn put_lent(&mut self, loan: Loan) -> PartValue
         requires { FitsFull (turn_of (Lend loan)) self.old }
         ensures editor { self.new ≡ full_after (turn_of (Lend loan)) self.old }
         ensures kind { turn_of result ≡ turn_after (turn_of (Lend loan)) self.old.body }
         ensures room { HasRoom result }
     {
         let from = loan.from as usize;
-        let part = &self.input[from..from + loan.count as usize];
-        self.text.splice(0, loan.there as usize, part);
+        let part = &self.input[from..from + loan.len as usize];
+        self.text.splice(0, loan.old_len as usize, part);
         let pointer = self.pointer as u32;
         self.pointer = loan.pointer as usize;
-        Kind::Lend(Loan {
-            from: loan.there_from,
-            count: loan.there,
-            there_from: loan.from,
-            there: loan.count,
+        PartValue::Lend(Loan {
+            from: loan.old_from,
+            len: loan.old_len,
+            old_from: loan.from,
+            old_len: loan.len,
             pointer,
         })
     }
@@ -144,7 +153,7 @@ impl Editor {
         ins: &[u8],
         pointer: usize,
         held: Vec<u8>,
-    ) -> Kind
+    ) -> PartValue
         requires empty { held.items ≡ [] }
         requires room { there + length ins.now ≤ vec_capacity held }
         requires fits { FitsFull (turn.Splice at there pointer ins.now) self.old }
@@ -152,32 +161,38 @@ impl Editor {
         ensures kind { turn_of result ≡ turn_after (turn.Splice at there pointer ins.now) self.old.body }
         ensures room { HasRoom result }
     {
-        let place = Place {
+        let place = TextSpan {
             at: at as u32,
-            there: ins.len() as u32,
+            len: ins.len() as u32,
             pointer: self.pointer as u32,
         };
         let held = exchange(&mut self.text, at, there, ins, held);
         self.pointer = pointer;
-        Kind::Splice(place, held)
+        PartValue::Splice(place, held)
     }
 
     /// Puts `ins` for the `there` bytes at `at`, and gives those that stood there, as a short text.
-    pub fn exchange_short(&mut self, at: usize, there: usize, ins: &[u8], pointer: usize) -> Kind
+    pub fn exchange_short(
+        &mut self,
+        at: usize,
+        there: usize,
+        ins: &[u8],
+        pointer: usize,
+    ) -> PartValue
         requires short { there + length ins.now ≤ SHORT_LIMIT }
         requires fits { FitsFull (turn.Splice at there pointer ins.now) self.old }
         ensures editor { self.new ≡ full_after (turn.Splice at there pointer ins.now) self.old }
         ensures kind { turn_of result ≡ turn_after (turn.Splice at there pointer ins.now) self.old.body }
         ensures room { HasRoom result }
     {
-        let place = Place {
+        let place = TextSpan {
             at: at as u32,
-            there: ins.len() as u32,
+            len: ins.len() as u32,
             pointer: self.pointer as u32,
         };
         let held = exchange_short(&mut self.text, at, there, ins);
         self.pointer = pointer;
-        Kind::Short(place, held)
+        PartValue::Short(place, held)
     }
 
     /// Puts `count` bytes of the input from `from` on for the `there` bytes at `at`, and gives those that stood there in `held`, which is
@@ -190,7 +205,7 @@ impl Editor {
         there: usize,
         pointer: usize,
         held: Vec<u8>,
-    ) -> Kind
+    ) -> PartValue
         requires within { from + count ≤ length self.old.body.input }
         requires empty { held.items ≡ [] }
         requires room { there + count ≤ vec_capacity held }
@@ -201,19 +216,19 @@ impl Editor {
             (turn.Splice at there pointer (turn.lent self.old.body.input from count)) self.old.body }
         ensures room { HasRoom result }
     {
-        let place = Place {
+        let place = TextSpan {
             at: at as u32,
-            there: count as u32,
+            len: count as u32,
             pointer: self.pointer as u32,
         };
         let part = &self.input[from..from + count];
         let held = exchange(&mut self.text, at, there, part, held);
         self.pointer = pointer;
-        Kind::Splice(place, held)
+        PartValue::Splice(place, held)
     }
 
     // Takes off what was pushed last, and puts it into `q`.
-    fn put_popped(&mut self, q: Reg) -> Kind
+    fn put_popped(&mut self, q: Reg) -> PartValue
         requires { FitsFull (turn_of (PopInto q)) self.old }
         ensures editor { self.new ≡ full_after (turn_of (PopInto q)) self.old }
         ensures kind { turn_of result ≡ turn_after (turn_of (PopInto q)) self.old.body }
@@ -221,11 +236,11 @@ impl Editor {
     {
         let mut value = self.pushed.pop();
         self.registers.swap(q, &mut value);
-        Kind::PutBack(q, value)
+        PartValue::PutBack(q, value)
     }
 
     // Pushes what `q` holds, and puts a value into it.
-    fn put_back(&mut self, q: Reg, mut value: Value) -> Kind
+    fn put_back(&mut self, q: Reg, mut value: Value) -> PartValue
         requires { FitsFull (turn_of (PutBack q value)) self.old }
         ensures editor { self.new ≡ full_after (turn_of (PutBack q value)) self.old }
         ensures kind { turn_of result ≡ turn_after (turn_of (PutBack q value)) self.old.body }
@@ -233,6 +248,6 @@ impl Editor {
     {
         self.registers.swap(q, &mut value);
         self.pushed.push(value);
-        Kind::PopInto(q)
+        PartValue::PopInto(q)
     }
 }

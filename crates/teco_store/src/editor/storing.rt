@@ -83,6 +83,7 @@ impl Editor {
         requires there { to ≤ length self.now.body.text }
         ensures { IsEnd result (length (with_range_written (state_of self.now) from to form_feed).output) }
     {
+        // This shows that the text has less than 2^63 bytes.
         let _len = self.text.len();
         end_after(self.shown, to - from + usize::from(form_feed))
     }

@@ -11,7 +11,7 @@ ghost use Rattle.teco_store.specs.Turn.{full_after, lent, IsLent, Splice};
 use crate::held::Held;
 use crate::recorder::Recorder;
 use teco_core::{FILE_LIMIT, NoMemory, TEXT_LIMIT};
-use teco_store::change::{Kind, Loan, Part, Small};
+use teco_store::change::{Loan, PartChange, PartValue, SmallChange};
 use teco_store::{Desk, PageSpan};
 
 impl Recorder {
@@ -33,6 +33,7 @@ impl Recorder {
         ensures sound { IsSound self.new.full.room (length self.new.full.stored) self.new.full.body }
         ensures keeps { StillFollows self.old self.new }
     {
+        // This shows that what the editor holds is within its limits.
         let _shown = self.editor.shown();
         self.editor.store_part(from, to, form_feed)
     }
@@ -51,6 +52,7 @@ impl Recorder {
         ensures sound { IsSound self.new.full.room (length self.new.full.stored) self.new.full.body }
         ensures keeps { StillFollows self.old self.new }
     {
+        // This shows that what the editor holds is within its limits.
         let _shown = self.editor.shown();
         self.editor.store_upto(from, upto)
     }
@@ -108,19 +110,20 @@ impl Recorder {
         ensures apart { self.new.apart + 1 ≡ self.old.apart }
         ensures goes { FollowsAfterChanges (there + count) 1 self.old self.new }
     {
+        // This shows that what the editor holds is within its limits.
         let _shown = self.editor.shown();
         match held {
             Held::Memory(held) => {
                 let held = self
                     .editor
                     .exchange_input(from, count, at, there, pointer, held);
-                self.entry.push_apart(self.done, Part::new(held));
+                self.entry.push_apart(self.done, PartChange::new(held));
             }
-            Held::Input(there_from) => self.note_apart(Kind::Lend(Loan {
+            Held::Input(there_from) => self.note_apart(PartValue::Lend(Loan {
                 from: from as u32,
-                count: count as u32,
-                there_from: there_from as u32,
-                there: there as u32,
+                len: count as u32,
+                old_from: there_from as u32,
+                old_len: there as u32,
                 pointer: pointer as u32,
             })),
         }
@@ -156,6 +159,10 @@ impl Recorder {
         let from = self.editor().place();
         let place = from + len + usize::from(form_feed);
         self.put_input(from, len, at, there, pointer, held);
-        self.note(Small::Pages(place as u32, end as u32, form_feed));
+        self.note(SmallChange::Pages {
+            place: place as u32,
+            end: end as u32,
+            form_feed,
+        });
     }
 }

@@ -12,13 +12,13 @@ use crate::held::Held;
 use crate::recorder::Recorder;
 use crate::recorder::texts::count_of;
 use teco_core::{CaseMode, PushList, Reg, Registers, TEXT_LIMIT};
-use teco_store::change::{Kind, Small};
+use teco_store::change::{PartValue, SmallChange};
 use teco_store::{Desk, Refused, is_long, is_past};
 
 impl Recorder {
     // Finds room for one change whose value lies in it, and makes it.
     #[inline(always)]
-    fn change(&mut self, small: Small) -> Result<(), Refused>
+    fn change(&mut self, small: SmallChange) -> Result<(), Refused>
         requires here { IsHere small }
         requires fits { IsSound self.old.full.room (length self.old.full.stored) self.old.full.body
             → FitsFull (small_turn small) self.old.full }
@@ -37,7 +37,7 @@ impl Recorder {
     }
 
     // Finds room for one change that is held apart, and makes it.
-    fn change_apart(&mut self, kind: Kind) -> Result<(), Refused>
+    fn change_apart(&mut self, kind: PartValue) -> Result<(), Refused>
         requires room { HasRoom kind }
         requires fits { IsSound self.old.full.room (length self.old.full.stored) self.old.full.body
             → FitsFull (turn_of kind) self.old.full }
@@ -136,31 +136,34 @@ impl Desk for Recorder {
         if place == self.editor.pointer() {
             return Ok(());
         }
-        self.change(Small::Point(place as u32))
+        self.change(SmallChange::Point(place as u32))
     }
 
     #[inline(always)]
     fn set_number(&mut self, q: Reg, number: i32) -> Result<(), Refused> {
+        // This shows that the register is one of 36.
         let _index = q.index();
-        self.change(Small::Number(q, number))
+        self.change(SmallChange::Number(q, number))
     }
 
     fn set_text(&mut self, q: Reg, text: Vec<u8>) -> Result<(), Refused> {
+        // This shows that the register is one of 36.
         let _index = q.index();
         if text.len() > TEXT_LIMIT {
             return Err(Refused::Big);
         }
-        self.change_apart(Kind::Text(q, text))
+        self.change_apart(PartValue::Text(q, text))
     }
 
     fn push(&mut self, q: Reg) -> Result<(), Refused> {
         let value = self.editor().registers().value(q).copy()?;
-        self.change_apart(Kind::Push(value))
+        self.change_apart(PartValue::Push(value))
     }
 
     fn pop(&mut self, q: Reg) -> Result<(), Refused> {
+        // This shows that the register is one of 36.
         let _index = q.index();
-        self.change_apart(Kind::PopInto(q))
+        self.change_apart(PartValue::PopInto(q))
     }
 
     fn read_page(&mut self) -> Result<(), Refused> {
@@ -219,7 +222,11 @@ impl Desk for Recorder {
         let flag = editor.flag();
         self.reserve(1, 0)?;
         self.store_part(from, to, form_feed)?;
-        self.note(Small::Pages(place as u32, end as u32, flag));
+        self.note(SmallChange::Pages {
+            place: place as u32,
+            end: end as u32,
+            form_feed: flag,
+        });
         Ok(())
     }
 
@@ -235,7 +242,7 @@ impl Desk for Recorder {
         let text = self.editor().fresh_text(text)?;
         self.reserve(3, count_of(&text))?;
         self.note_result(text, found);
-        self.note(Small::Point(place as u32));
+        self.note(SmallChange::Point(place as u32));
         Ok(())
     }
 
@@ -268,13 +275,17 @@ impl Desk for Recorder {
         let held = self.hold_page(3, there, 0)?;
         self.store_upto(held.place(), over)?;
         self.put_input(0, 0, 0, there, 0, held);
-        self.note(Small::Pages(over as u32, end as u32, false));
-        self.note(Small::Done(true));
+        self.note(SmallChange::Pages {
+            place: over as u32,
+            end: end as u32,
+            form_feed: false,
+        });
+        self.note(SmallChange::Done(true));
         Ok(())
     }
 
     fn set_case(&mut self, mode: CaseMode) -> Result<(), Refused> {
-        self.change(Small::Mode(mode))
+        self.change(SmallChange::Mode(mode))
     }
 
     fn step_done(&mut self, steps: u64) {

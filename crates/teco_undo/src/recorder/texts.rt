@@ -6,7 +6,7 @@ ghost use Rattle.teco_store.specs.State.{IsSound};
 
 use crate::recorder::Recorder;
 use teco_core::TEXT_LIMIT;
-use teco_store::change::{Kind, Small};
+use teco_store::change::{PartValue, SmallChange};
 
 // How many changes of a text that is noted are held apart.
 pub(super) fn count_of(text: &Option<Vec<u8>>) -> usize
@@ -37,10 +37,11 @@ impl Recorder {
         ensures goes { FollowsAfterChanges (fresh_load self.old.full.body.last_search
             (option_map (λ v. v.items) text)) 2 self.old self.new }
     {
+        // This shows that what the editor holds is within its limits.
         let _shown = self.editor.shown();
         if let Some(text) = text {
-            self.note_apart(Kind::Search(Some(text)));
+            self.note_apart(PartValue::Search(Some(text)));
         }
-        self.note(Small::Found(found));
+        self.note(SmallChange::Found(found));
     }
 }

@@ -6,14 +6,14 @@ use Rattle.teco_store.specs.Turn.{Note}
 use Rattle.teco_undo.proofs.Listing.{apart_within, seen_apart, seen_here}
 use Rattle.teco_undo.proofs.change_list.ChangeList.kind.Goals as goal
 
-pub index-requires-in-Apart : goal.index-requires-in-Apart
-index-requires-in-Apart c =
-    let lt = apart_within c.self.inside c.args.self.now c.args.i c.in-Apart.place c.index.result.now c.self.view_is c.self.invariant c.requires c.index.ensures (search rules) in
+pub index-requires-in-HeldApart : goal.index-requires-in-HeldApart
+index-requires-in-HeldApart c =
+    let lt = apart_within c.self.inside c.args.self.now c.args.i c.in-HeldApart.place c.index.result.now c.self.view_is c.self.invariant c.requires c.index.ensures (search rules) in
     search (rules, lt)
 
-pub returns-in-Apart : goal.returns-in-Apart
-returns-in-Apart c =
-    let seen = seen_apart c.self.inside c.args.self.now c.args.i c.in-Apart.place c.index.result.now c.index-in-Apart.result.now c.self.view_is c.self.invariant c.requires c.index.ensures (search rules) c.index-in-Apart.ensures in
+pub returns-in-HeldApart : goal.returns-in-HeldApart
+returns-in-HeldApart c =
+    let seen = seen_apart c.self.inside c.args.self.now c.args.i c.in-HeldApart.place c.index.result.now c.index-in-HeldApart.result.now c.self.view_is c.self.invariant c.requires c.index.ensures (search rules) c.index-in-HeldApart.ensures in
     let tells = c.change_laws.ensures c.kind.result (get_or c.args.self.now.items c.args.i no_note).turn (c.kind.ensures ∙ ap (λ (n : Note). kind_of n.turn) (sym seen)) in
     record { kind = tells.kind_is; only = tells.only; back = tells.back }
 

@@ -8,14 +8,14 @@ use Rattle.teco_undo.proofs.change_list.ChangeList.pop.Goals as goal
 
 pub unreachable-requires : goal.unreachable-requires
 unreachable-requires c =
-    let some = none_apart c.self.inside.slots.items c.pop.new.self.items c.self.inside.apart.items c.in-Apart.field-0 c.in-Some.slot c.self.invariant c.in-Some.ensures.items c.in-Apart.is in
+    let some = none_apart c.self.inside.slots.items c.pop.new.self.items c.self.inside.apart.items c.in-HeldApart.field-0 c.in-Some.slot c.self.invariant c.in-Some.ensures.items c.in-HeldApart.is in
     let none = c.in-None.ensures.cases in
     search (rules, some, none)
 
-pub invariant_of-self-in-Apart : goal.invariant_of-self-in-Apart
-invariant_of-self-in-Apart c =
-    (in_place-less c.self.inside.slots.items c.pop.new.self.items c.self.inside.apart.items c.pop-in-Apart.new.self.items c.in-Some-pop.part c.in-Apart.field-0 c.in-Some.slot c.self.invariant
-    c.in-Some.ensures.items c.in-Some-pop.ensures.items c.in-Apart.is).1
+pub invariant_of-self-in-HeldApart : goal.invariant_of-self-in-HeldApart
+invariant_of-self-in-HeldApart c =
+    (in_place-less c.self.inside.slots.items c.pop.new.self.items c.self.inside.apart.items c.pop-in-HeldApart.new.self.items c.in-Some-pop.part c.in-HeldApart.field-0 c.in-Some.slot c.self.invariant
+    c.in-Some.ensures.items c.in-Some-pop.ensures.items c.in-HeldApart.is).1
 
 pub invariant_of-self-in_default-small : goal.invariant_of-self-in_default-small
 invariant_of-self-in_default-small c =
@@ -25,6 +25,6 @@ invariant_of-self-in_default-small c =
 
 pub returns-in-Some-pop-clause-items : goal.returns-in-Some-pop-clause-items
 returns-in-Some-pop-clause-items c =
-    let less = notes-less c.self.inside.slots.items c.pop.new.self.items c.self.inside.apart.items c.pop-in-Apart.new.self.items c.in-Some-pop.part c.in-Apart.field-0 c.in-Some.slot c.self.invariant
-    c.in-Some.ensures.items c.in-Some-pop.ensures.items c.in-Apart.is in
-    ap (λ (x : ChangeListing). x.items) (sym c.self.view_is) ∙ less ∙ ap (λ (n : Note). map (note_of_slot c.pop-in-Apart.new.self.items) c.pop.new.self.items ++ n ∷ []) (sym c.new.ensures)
+    let less = notes-less c.self.inside.slots.items c.pop.new.self.items c.self.inside.apart.items c.pop-in-HeldApart.new.self.items c.in-Some-pop.part c.in-HeldApart.field-0 c.in-Some.slot c.self.invariant
+    c.in-Some.ensures.items c.in-Some-pop.ensures.items c.in-HeldApart.is in
+    ap (λ (x : ChangeListing). x.items) (sym c.self.view_is) ∙ less ∙ ap (λ (n : Note). map (note_of_slot c.pop-in-HeldApart.new.self.items) c.pop.new.self.items ++ n ∷ []) (sym c.new.ensures)

@@ -5,21 +5,21 @@ use Rattle.teco_undo.proofs.Listing.{apart_within, seen_apart, seen_here, same_s
 use Rattle.teco_undo.proofs.change_list.ChangeList.turn.Goals as goal
 
 pub index_mut-requires : goal.index_mut-requires
-index_mut-requires c = let lt = apart_within c.self.inside c.args.self.now c.args.i c.in-Apart.place c.index.result.now c.self.view_is c.self.invariant c.requires.within c.index.ensures (search rules) in search (rules, lt)
+index_mut-requires c = let lt = apart_within c.self.inside c.args.self.now c.args.i c.in-HeldApart.place c.index.result.now c.self.view_is c.self.invariant c.requires.within c.index.ensures (search rules) in search (rules, lt)
 
 pub turn-requires : goal.turn-requires
 turn-requires c =
-    let seen = seen_apart c.self.inside c.args.self.now c.args.i c.in-Apart.place c.index.result.now c.index_mut.result.now c.self.view_is c.self.invariant c.requires.within c.index.ensures (search rules) c.index_mut.ensures.value in
+    let seen = seen_apart c.self.inside c.args.self.now c.args.i c.in-HeldApart.place c.index.result.now c.index_mut.result.now c.self.view_is c.self.invariant c.requires.within c.index.ensures (search rules) c.index_mut.ensures.value in
     subst (λ (n : Note). FitsFull n.turn c.args.editor.now) seen c.requires.fits
 
-pub returns-in-Apart-clause-editor : goal.returns-in-Apart-clause-editor
-returns-in-Apart-clause-editor c =
-    let seen = seen_apart c.self.inside c.args.self.now c.args.i c.in-Apart.place c.index.result.now c.index_mut.result.now c.self.view_is c.self.invariant c.requires.within c.index.ensures (search rules) c.index_mut.ensures.value in
+pub returns-in-HeldApart-clause-editor : goal.returns-in-HeldApart-clause-editor
+returns-in-HeldApart-clause-editor c =
+    let seen = seen_apart c.self.inside c.args.self.now c.args.i c.in-HeldApart.place c.index.result.now c.index_mut.result.now c.self.view_is c.self.invariant c.requires.within c.index.ensures (search rules) c.index_mut.ensures.value in
     c.turn.ensures.editor ∙ ap (λ (n : Note). full_after n.turn c.args.editor.now) (sym seen)
 
-pub returns-in-Apart-clause-items : goal.returns-in-Apart-clause-items
-returns-in-Apart-clause-items c =
-    turned_apart c.self.inside c.args.self.now c.args.i c.in-Apart.place c.index.result.now c.index_mut.result.now c.turn.new.self c.args.editor.now.body c.self.view_is c.self.invariant c.requires.within c.index.ensures (search rules) c.index_mut.ensures.value c.turn.ensures.part
+pub returns-in-HeldApart-clause-items : goal.returns-in-HeldApart-clause-items
+returns-in-HeldApart-clause-items c =
+    turned_apart c.self.inside c.args.self.now c.args.i c.in-HeldApart.place c.index.result.now c.index_mut.result.now c.turn.new.self c.args.editor.now.body c.self.view_is c.self.invariant c.requires.within c.index.ensures (search rules) c.index_mut.ensures.value c.turn.ensures.part
 
 pub invariant_of-self-in_default : goal.invariant_of-self-in_default
 invariant_of-self-in_default c =

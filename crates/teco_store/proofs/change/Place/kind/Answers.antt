@@ -1,5 +1,0 @@
-use Rattle.std.proofs.Common.{refl}
-use Rattle.teco_store.proofs.change.Place.kind.Goals as goal
-
-pub returns : goal.returns
-returns c = refl
