@@ -41,8 +41,6 @@ pub(super) const EXAMPLES: &str = "
     Y2L.-Z\"LInew\n$'EX$$ => => 1\n2\nnew\n3\n => 1\n2\n3\n => exit
     // A first line and a last line?
     YIhead\n$ZJ-A-10\"NI\n$'Itail\n$EX$$ => => head\none\ntail\n => one\n => exit
-    // The first line to the end?
-    YXAKZJGAEX$$ => => two\nthree\none\n => one\ntwo\nthree\n => exit
     // Blanks off the ends of lines?
     Y<FS`S\n$\n$;>EX$$ => => one\ntwo\nthree\n => one  \ntwo\t\nthree\n => exit
     // Lines that are alike and next to one another, once?
