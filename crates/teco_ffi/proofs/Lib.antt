@@ -1,4 +1,5 @@
 mod AsBox
+mod Holding
 mod Opens
 mod AsFlag
 mod OpensFlag

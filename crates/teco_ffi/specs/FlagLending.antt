@@ -1,7 +1,6 @@
 -- What a stopper becomes when its flag was lent, by what was left there.
-use Rattle.std.specs.Prelude.{◌≡◌, Option, ⊤}
-use Rattle.std.specs.Borrow.{LendsIf, MutBor, Fml, follows_so}
-use mathlib.Core.Option.{none}
+use Rattle.std.specs.Prelude.{Option}
+use Rattle.std.specs.Borrow.{LendsIf, MutBor, Fml}
 use Rattle.std.specs.declared.option.Option.TheVariants.{Some}
 use Rattle.teco_ffi.specs.contracts.flag.Flag as Inner
 use Rattle.teco_ffi.specs.Stopper.{SeenFlag}
@@ -15,8 +14,3 @@ with_flag t flag = record t { value = Some flag }
 -- An open handle gets back what is left behind the loan, and a closed one stays as it is.
 abbrev pub LendsFlag : MutBor Stopper → Option (MutBor SeenFlag) → Fml
 LendsFlag t loan = LendsIf Handle.the_row Inner.the_row t loan (with_flag t.now) t.now
-
--- A handle whose flag was lent to be looked at is the same once the look is over.
-abbrev pub FlagStays : MutBor Stopper → Fml
-FlagStays t =
-    follows_so Handle.the_row Handle.the_row t.ghost_name none (λ _ _. ⊤) (λ after. after ≡ t.now)

@@ -1,5 +1,6 @@
 -- What a handle becomes when its session was lent, by what was left there.
 use Rattle.std.specs.Prelude.{◌≡◌, Option, ⊤}
+use denote.RattleType.{RattleType}
 use Rattle.std.specs.Borrow.{LendsIf, MutBor, Fml, follows_so}
 use mathlib.Core.Option.{none}
 use Rattle.std.specs.declared.option.Option.TheVariants.{Some}
@@ -16,7 +17,6 @@ with_session t kept = record t { value = Some kept }
 abbrev pub LendsSession : MutBor Teco → Option (MutBor Kept) → Fml
 LendsSession t loan = LendsIf Handle.the_row Inner.the_row t loan (with_session t.now) t.now
 
--- A handle whose session was lent to be looked at is the same once the look is over.
-abbrev pub StaysTheSame : MutBor Teco → Fml
-StaysTheSame t =
-    follows_so Handle.the_row Handle.the_row t.ghost_name none (λ _ _. ⊤) (λ after. after ≡ t.now)
+-- What was lent to be looked at is the same once the look is over.
+abbrev pub StaysTheSame : (R : RattleType) → MutBor R.Denot → Fml
+StaysTheSame R t = follows_so R R t.ghost_name none (λ _ _. ⊤) (λ after. after ≡ t.now)

@@ -1,6 +1,7 @@
 //! The handle that C keeps.
 ghost use Rattle.std.specs.Prelude.{◌≡◌, MatchOption, IfSome, None, Some, Option};
 ghost use Rattle.teco_ffi.specs.Handle.{holds, coded_held, Kept};
+ghost use Rattle.teco_session.specs.contracts.session.Session.{the_row as kept_row};
 
 use crate::parts::Parts;
 use std::alloc::Global;
@@ -16,6 +17,8 @@ pub struct Inside {
 }
 
 /// The place of a session, or null where it is closed. It is no `Drop`: no function here can let one go, so no session is lost.
+// A stopper is the same over a flag, and one generic struct would do for both; but an export takes no generic one. Nor can a handle be seen
+// as such a struct where it lies, since memory holds it under the name of its type.
 #[repr(C)]
 pub struct Teco {
     at: *mut Inside,
@@ -24,12 +27,13 @@ pub struct Teco {
 }
 
 impl Model for Teco {
-    ghost also_owns = { λ t. holds t.alloc t.at t.value };
+    ghost also_owns = { λ t. holds kept_row t.alloc t.at t.value };
 }
 
 impl Teco {
     ghost use Rattle.std.specs.Borrow.{sem};
     ghost use Rattle.teco_ffi.specs.Lending.{LendsSession, StaysTheSame, with_session};
+    ghost use Rattle.teco_ffi.specs.contracts.handle.Teco.{the_row};
 
     /// A handle that is closed. Takes no memory.
     pub fn closed(alloc: Global) -> Teco
@@ -84,7 +88,7 @@ impl Teco {
 
     /// The session, if the handle is open, to be looked at where it is. The handle stays the same. Takes no memory.
     pub fn look(&mut self) -> Option<&Session>
-        ensures* same { sem 𝓛 (StaysTheSame self.entry) }
+        ensures* same { sem 𝓛 (StaysTheSame the_row self.entry) }
         ensures value { MatchOption result (self.old.value ≡ None)
             (λ session. self.old.value ≡ Some session.now) }
     {

@@ -1,6 +1,8 @@
 //! The handle of a stopper that C keeps.
 ghost use Rattle.std.specs.Prelude.{◌≡◌, MatchOption, IfSome, None, Some, Option};
-ghost use Rattle.teco_ffi.specs.Stopper.{holds_flag, coded_flag, SeenFlag};
+ghost use Rattle.teco_ffi.specs.Handle.{holds};
+ghost use Rattle.teco_ffi.specs.Stopper.{coded_flag, SeenFlag};
+ghost use Rattle.teco_ffi.specs.contracts.flag.Flag.{the_row as flag_row};
 
 use crate::flag::Flag;
 use crate::handle::Inside;
@@ -19,14 +21,16 @@ pub struct Stopper {
 }
 
 impl Model for Stopper {
-    ghost also_owns = { λ t. holds_flag t.alloc t.at t.value };
+    ghost also_owns = { λ t. holds flag_row t.alloc t.at t.value };
 }
 
 unsafe impl Send for Stopper {}
 
 impl Stopper {
     ghost use Rattle.std.specs.Borrow.{sem};
-    ghost use Rattle.teco_ffi.specs.FlagLending.{LendsFlag, FlagStays, with_flag};
+    ghost use Rattle.teco_ffi.specs.FlagLending.{LendsFlag, with_flag};
+    ghost use Rattle.teco_ffi.specs.Lending.{StaysTheSame};
+    ghost use Rattle.teco_ffi.specs.contracts.stopper.Stopper.{the_row};
 
     /// A stopper that is closed. Takes no memory.
     pub fn closed(alloc: Global) -> Stopper
@@ -80,7 +84,7 @@ impl Stopper {
 
     /// The flag, if the stopper is open. The stopper stays the same. Takes no memory.
     pub fn look(&mut self) -> Option<&Flag>
-        ensures* same { sem 𝓛 (FlagStays self.entry) }
+        ensures* same { sem 𝓛 (StaysTheSame the_row self.entry) }
         ensures value { MatchOption result (self.old.value ≡ None)
             (λ flag. self.old.value ≡ Some flag.now) }
     {

@@ -35,7 +35,8 @@ use Rattle.std_alloc.proofs.ResultValues.{and_tt}
 use Rattle.std_heap.specs.contracts.Global as Heap
 use Rattle.std_heap.specs.contracts.GlobalAllocator.TheImpl.{ghosts}
 use Rattle.teco_ffi.proofs.AsBox.{E, FromSeal as From}
-use Rattle.teco_ffi.proofs.Opens.{shell, seal_out, either_held}
+use Rattle.teco_ffi.proofs.Holding.{either_held}
+use Rattle.teco_ffi.proofs.Opens.{shell, seal_out}
 use Rattle.teco_ffi.specs.contracts.handle.Teco as Sealed
 use Rattle.teco_ffi.specs.contracts.parts.Parts as Parts
 use Rattle.teco_session.specs.contracts.session.Session as Home
@@ -61,7 +62,7 @@ module _ {M : Type 1} {𝓤 : Ura M} (𝓛 : Logic 𝓤) (at_mem : Memory → SP
       let Out = type_at (F.signature).result tt in
       let Run : List Val → SProp 𝓤 = λ us. WpFn 𝓤 H 𝓣.C 𝓣.Λ code.function us Post in
       qed 𝓛 ((‵ ftrue ⊛ ‵ (fsep ((Sealed.the_row).own_val s z.0.4.0) ftrue)) ∷ raw (emp 𝓤) ∷ []) ∵ split ! $ drop ! $ fsplit ! $
-      seal_out ! s z.0.4.0 (λ h ws fa. either_held ! a s.at s.value
+      seal_out ! s z.0.4.0 (λ h ws fa. either_held Home.the_row ! a s.at s.value
       (λ is no. drop ! $ drop ! $ drop ! $
       let w : Val = shell null_ptr h in let v₀ : Val = live 0 vnil in
       let us : z.0.4.0 ≡ w ∷ [] = subst (λ (p : Ptr). z.0.4.0 ≡ shell p h ∷ []) is ws in

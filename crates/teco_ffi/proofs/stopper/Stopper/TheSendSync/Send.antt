@@ -12,12 +12,13 @@ use Rattle.std.specs.declared.option.Option.TheVariants.{None, Some}
 use Rattle.std.specs.Global.{Global}
 use Rattle.std_alloc.proofs.SendSync.{quiet, lies}
 use Rattle.std_heap.proofs.Global.TheSendSync as handle
-use Rattle.teco_ffi.specs.Stopper.{SeenFlag, holds_flag}
+use Rattle.teco_ffi.specs.Handle.{holds}
+use Rattle.teco_ffi.specs.Stopper.{SeenFlag}
 use Rattle.teco_ffi.specs.contracts.flag.Flag as Home
 use Rattle.teco_ffi.proofs.flag.Flag.TheSendSync.{the_send as home}
 use Rattle.teco_ffi.specs.contracts.stopper.Stopper.{the_row, the_type}
 
-held : (alloc : Global) (p : Ptr) (flag : Option SeenFlag) → Keyless (holds_flag alloc p flag)
+held : (alloc : Global) (p : Ptr) (flag : Option SeenFlag) → Keyless (holds Home.the_row alloc p flag)
 held alloc p None = λ _. tt
 held alloc p (Some x) = (lies Home.the_row home p x, heap.frees.frees alloc (raw (lone Home.the_row.mir)) p)
 

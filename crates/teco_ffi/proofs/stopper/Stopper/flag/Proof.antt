@@ -40,8 +40,10 @@ use Rattle.std.specs.declared.option.Option.{Option}
 use Rattle.std.specs.declared.option.Option.TheVariants.{None, Some}
 use Rattle.std_heap.specs.contracts.Global as Heap
 use Rattle.std_heap.specs.contracts.GlobalAllocator.TheImpl.{ghosts}
-use Rattle.teco_ffi.proofs.OpensFlag.{shell, seal_out, seal_in, either_held}
-use Rattle.teco_ffi.specs.Stopper.{SeenFlag, holds_flag}
+use Rattle.teco_ffi.proofs.Holding.{either_held}
+use Rattle.teco_ffi.proofs.OpensFlag.{shell, seal_out, seal_in}
+use Rattle.teco_ffi.specs.Handle.{holds}
+use Rattle.teco_ffi.specs.Stopper.{SeenFlag}
 use Rattle.teco_ffi.specs.FlagLending.{with_flag}
 use Rattle.teco_ffi.specs.contracts.stopper.Stopper as Sealed
 use Rattle.teco_ffi.specs.contracts.flag.Flag as Home
@@ -116,14 +118,14 @@ module _ {M : Type 1} {𝓤 : Ura M} (𝓛 : Logic 𝓤) (at_mem : Memory → SP
           move ! (1 ∷ []) $ fsplit ! $ fsplit3 ! $ drop ! $ move ! (3 ∷ []) $ split ! $ move ! (2 ∷ 3 ∷ 0 ∷ []) $
           opens ! tt Self {h = d} rb ro (λ vs. move ! (1 ∷ []) $
           seal_out ! d vs (λ h ws fa. rewrite ! 2 (λ (us : List Val). ‵ (cell_at full_share Self.mir us rb ro)) ws refl $
-          either_held ! d.alloc d.at d.value
+          either_held R ! d.alloc d.at d.value
           (λ gone closed.
           sets ! (is ! (of_opd ! (load ! (through ! refl (fld ! refl (stop !))) (look_in ! 1 (sub ! 0 refl (whole !))))) (ap ptr_val gone)) refl (tt, record { fits = lit< tt }) $
           sets ! (of_opd ! (get ! refl)) refl (tt, record { fits = lit< tt }) $
           sets ! (bin ! (get ! refl) (lit ! tt) tt) refl (tt, tt) $ first ! $ branches ! (get ! refl)
           (λ _. sets_last ! (agg ! (and_then ! (lit ! tt) (no_more !))) refl (tt, (record { fits = lit< tt }, tt)) $ exec ! C Λ En code.Mir.t-5 (at_ret En Post) $
           sets ! (of_opd ! (get ! refl)) refl (tt, (record { fits = lit< tt }, tt)) $
-          nothing ! $ fpack ! (d.at ≡ null_ptr) (λ _. ftrue) gone $ rewrite ! 0 (λ (k : Option SeenFlag). ‵ (holds_flag d.alloc d.at k)) (sym closed) refl $
+          nothing ! $ fpack ! (d.at ≡ null_ptr) (λ _. ftrue) gone $ rewrite ! 0 (λ (k : Option SeenFlag). ‵ (holds R d.alloc d.at k)) (sym closed) refl $
           seal_in ! d.at h d.alloc d.value $ move ! (1 ∷ 0 ∷ []) $ closes ! tt Self d (shell d.at h ∷ []) rb ro $
           use1 𝓛 (‵ (fres γ (Self.coded.code d))) (𝓛.names.obs-res γ (Self.coded.code d)) $ move ! (1 ∷ []) $ drop ! $
           use0 𝓛 (‵ (Out.own_val None (live 0 vnil ∷ []))) (none_of 𝓛 Lent) $
