@@ -16,9 +16,8 @@ static double now(void)
 static void run(struct teco *t, const char *string)
 {
     uint8_t room[64];
-    size_t made;
-    uint64_t steps;
-    teco_run(t, (const uint8_t *)string, strlen(string), 10000000, room, sizeof room, &made, &steps);
+    struct teco_run run = {.limit = 10000000, .room = room, .room_size = sizeof room, .frames = TECO_NO_FRAMES};
+    teco_run(t, (const uint8_t *)string, strlen(string), &run);
 }
 
 int main(void)

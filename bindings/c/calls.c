@@ -18,8 +18,11 @@ static int failed;
         } \
     } while (0)
 
+enum { LIMIT = 1000, CALLED = 3 };
+
 static uint8_t room[64];
-static size_t n, at, calls;
+static struct teco_call called[CALLED];
+static size_t n, at, inner, calls;
 static uint64_t steps;
 
 static const uint8_t *bytes(const char *text)
@@ -27,27 +30,45 @@ static const uint8_t *bytes(const char *text)
     return (const uint8_t *)text;
 }
 
-static uint8_t run(struct teco *t, const char *text, size_t size)
+/* Runs a string, and gives what the run told. What the run was given is the same after. */
+static uint8_t run_as(struct teco *t, const char *text, struct teco_run given)
 {
-    return teco_run(t, bytes(text), strlen(text), 1000, room, size, &n, &steps);
-}
-
-static uint8_t where(struct teco *t, const char *text, size_t size)
-{
-    return teco_where(t, bytes(text), strlen(text), 1000, room, size, &n, &steps, &at, &calls);
+    struct teco_run run = given;
+    run.made = run.steps = run.at = run.inner = run.calls = 1;
+    memset(called, '.', sizeof called);
+    uint8_t code = teco_run(t, bytes(text), strlen(text), &run);
+    HOLDS(run.limit == given.limit && run.stopper.at == given.stopper.at && run.room == given.room && run.room_size == given.room_size);
+    HOLDS(run.frames == given.frames && run.frames_size == given.frames_size && (run.inner == run.at || run.calls > 0));
+    n = run.made;
+    steps = run.steps;
+    at = run.at;
+    inner = run.inner;
+    calls = run.calls;
+    return code;
 }
 
 static uint8_t until(struct teco *t, const char *text, size_t size, const struct teco_stopper *stopper)
 {
-    return teco_where_until(t, bytes(text), strlen(text), 1000, stopper, room, size, &n, &steps, &at, &calls);
+    struct teco_run run = {.limit = LIMIT, .stopper = *stopper, .room = room, .room_size = size, .frames = TECO_NO_FRAMES};
+    return run_as(t, text, run);
 }
 
-static struct teco_call called[3];
+static uint8_t run(struct teco *t, const char *text, size_t size)
+{
+    return until(t, text, size, &(struct teco_stopper){0});
+}
+
+static uint8_t run_for(struct teco *t, const char *text, uint64_t limit)
+{
+    struct teco_run run = {.limit = limit, .room = TECO_NO_ROOM, .frames = TECO_NO_FRAMES};
+    return run_as(t, text, run);
+}
 
 static uint8_t frames(struct teco *t, const char *text, size_t most, const struct teco_stopper *stopper)
 {
-    memset(called, '.', sizeof called);
-    return teco_frames(t, bytes(text), strlen(text), 1000, stopper, room, sizeof room, &n, &steps, &at, &calls, called, most);
+    struct teco_run run = {
+        .limit = LIMIT, .stopper = *stopper, .room = room, .room_size = sizeof room, .frames = called, .frames_size = most};
+    return run_as(t, text, run);
 }
 
 /* Whether this call is told there; and whether nothing is. */
@@ -61,10 +82,15 @@ static int is_untold(int i)
     return is_called(i, (size_t)0x2e2e2e2e2e2e2e2e, '.');
 }
 
-/* Whether a string stopped there, inside of so many macros. */
+/* Whether a string stopped there, inside of so many macros; and whether it stopped there in the innermost text. */
 static int stopped(size_t place, size_t macros)
 {
     return at == place && calls == macros;
+}
+
+static int stopped_inside(size_t place, size_t macros)
+{
+    return inner == place && calls == macros;
 }
 
 /* Whether the first bytes of the room, as many as were told, are these. */
@@ -103,32 +129,33 @@ static void runs(void)
     HOLDS(run(&t, "2=12=", 4) == TECO_TTY && has("2\r\n") && room[3] == '.' && steps == 3);
     HOLDS(run(&t, "", 0) == 0 && n == 0 && steps == 0);
     HOLDS(run(&t, "9J", 0) == 20 && steps == 2);
-    HOLDS(teco_run(&t, bytes("<>"), 2, 10, room, 0, &n, &steps) == TECO_LIM && steps == 10);
+    HOLDS(run_for(&t, "<>", 10) == TECO_LIM && steps == 10);
+    HOLDS(run_for(&t, "", 0) == 0 && steps == 0 && run_for(&t, " J", 0) == TECO_LIM && steps == 0 && stopped(1, 0));
     HOLDS(run(&t, "EX", 0) == 0 && teco_done(&t) == 1);
     HOLDS(run(&t, "J", 0) == TECO_END && steps == 0);
-    HOLDS(teco_strings(&t, &n) == 0 && n == 6);
+    HOLDS(teco_strings(&t, &n) == 0 && n == 8);
     HOLDS(teco_undo(&t) == 0 && teco_done(&t) == 0);
     teco_close(&t);
 }
 
-static void wheres(void)
+static void stops(void)
 {
     struct teco t = {0};
     teco_open(&t, bytes(""), 0, 0);
-    HOLDS(where(&t, "Iab\0332+3=", 64) == 0 && has("5\r\n") && steps == 5 && stopped(TECO_NOWHERE, 0));
-    HOLDS(where(&t, "ZJ 9J", 64) == 20 && has("") && stopped(4, 0));
-    HOLDS(where(&t, "2=12=", 4) == TECO_TTY && has("2\r\n") && steps == 3 && stopped(4, 0));
-    HOLDS(where(&t, "J\r\nIx", 0) == 24 && steps == 1 && stopped(3, 0));
-    HOLDS(where(&t, "3<ZJ>8<C>", 0) == 20 && stopped(7, 0));
-    HOLDS(teco_where(&t, bytes("J2J"), 3, 2, room, 0, &n, &steps, &at, &calls) == TECO_LIM && steps == 2 && stopped(2, 0));
-    HOLDS(where(&t, "@^UA/J9J/", 0) == 0 && stopped(TECO_NOWHERE, 0));
-    HOLDS(where(&t, "ZJ MA", 0) == 20 && stopped(3, 1));
-    HOLDS(where(&t, "@^UB/2UB J J MA/ 7UC MB ZJ", 0) == 20 && stopped(21, 2));
-    HOLDS(where(&t, "@^UC/2=Ix/JMC", 64) == 24 && has("2\r\n") && stopped(11, 1));
-    HOLDS(where(&t, "", 0) == 0 && stopped(TECO_NOWHERE, 0));
+    HOLDS(run(&t, "Iab\0332+3=", 64) == 0 && has("5\r\n") && steps == 5 && stopped(TECO_NOWHERE, 0));
+    HOLDS(run(&t, "ZJ 9J", 64) == 20 && has("") && stopped(4, 0));
+    HOLDS(run(&t, "2=12=", 4) == TECO_TTY && has("2\r\n") && steps == 3 && stopped(4, 0));
+    HOLDS(run(&t, "J\r\nIx", 0) == 24 && steps == 1 && stopped(3, 0));
+    HOLDS(run(&t, "3<ZJ>8<C>", 0) == 20 && stopped(7, 0));
+    HOLDS(run_for(&t, "J2J", 2) == TECO_LIM && steps == 2 && stopped(2, 0));
+    HOLDS(run(&t, "@^UA/J9J/", 0) == 0 && stopped(TECO_NOWHERE, 0));
+    HOLDS(run(&t, "ZJ MA", 0) == 20 && stopped(3, 1));
+    HOLDS(run(&t, "@^UB/2UB J J MA/ 7UC MB ZJ", 0) == 20 && stopped(21, 2));
+    HOLDS(run(&t, "@^UC/2=Ix/JMC", 64) == 24 && has("2\r\n") && stopped(11, 1));
+    HOLDS(run(&t, "", 0) == 0 && stopped(TECO_NOWHERE, 0));
     HOLDS(teco_strings(&t, &n) == 0 && n == 11 && teco_undo(&t) == 0 && teco_rewind(&t, 0) == 0);
-    HOLDS(where(&t, "EX", 0) == 0 && stopped(TECO_NOWHERE, 0) && teco_done(&t) == 1);
-    HOLDS(where(&t, "9J", 0) == TECO_END && steps == 0 && stopped(TECO_NOWHERE, 0));
+    HOLDS(run(&t, "EX", 0) == 0 && stopped(TECO_NOWHERE, 0) && teco_done(&t) == 1);
+    HOLDS(run(&t, "9J", 0) == TECO_END && steps == 0 && stopped(TECO_NOWHERE, 0));
     teco_close(&t);
 }
 
@@ -137,17 +164,17 @@ static void open_calls(void)
     struct teco t = {0};
     struct teco_stopper here = {0}, there = {0};
     teco_open(&t, bytes(""), 0, 0);
-    HOLDS(frames(&t, "2=J", 3, &here) == 0 && has("2\r\n") && steps == 3 && stopped(TECO_NOWHERE, 0) && is_untold(0) && here.at == NULL);
+    HOLDS(frames(&t, "2=J", 3, &here) == 0 && has("2\r\n") && steps == 3 && stopped_inside(TECO_NOWHERE, 0) && is_untold(0) && here.at == NULL);
     HOLDS(frames(&t, "J 9J", 3, &here) == 20 && stopped(3, 0) && is_untold(0));
-    HOLDS(frames(&t, "@^UA/J9J/@^U7/ MA/J J M7ZJ", 3, &here) == 20 && stopped(2, 2));
+    HOLDS(frames(&t, "@^UA/J9J/@^U7/ MA/J J M7ZJ", 3, &here) == 20 && stopped_inside(2, 2) && stopped(22, 2));
     HOLDS(is_called(0, 1, 'A') && is_called(1, 22, '7') && is_untold(2));
-    HOLDS(frames(&t, "J Ma", 0, &here) == 20 && stopped(2, 1) && is_untold(0));
-    HOLDS(frames(&t, "M7", 1, &here) == 20 && stopped(2, 2) && is_called(0, 1, 'A') && is_untold(1));
+    HOLDS(frames(&t, "J Ma", 0, &here) == 20 && stopped_inside(2, 1) && is_untold(0));
+    HOLDS(frames(&t, "M7", 1, &here) == 20 && stopped_inside(2, 2) && is_called(0, 1, 'A') && is_untold(1));
     HOLDS(teco_stopper_open(&here, &there) == 0 && teco_stop(&there, 1) == 0);
     HOLDS(frames(&t, " M7", 3, &here) == TECO_LIM && steps == 0 && stopped(1, 0) && is_untold(0) && teco_stop(&there, 0) == 0);
-    HOLDS(frames(&t, " M7", 3, &here) == 20 && stopped(2, 2) && is_called(1, 1, '7'));
+    HOLDS(frames(&t, " M7", 3, &here) == 20 && stopped_inside(2, 2) && is_called(1, 1, '7'));
     HOLDS(teco_strings(&t, &n) == 0 && n == 7 && teco_undo(&t) == 0);
-    HOLDS(frames(&t, "EX", 3, &here) == 0 && frames(&t, "9J", 3, &here) == TECO_END && steps == 0 && stopped(TECO_NOWHERE, 0) && is_untold(0));
+    HOLDS(frames(&t, "EX", 3, &here) == 0 && frames(&t, "9J", 3, &here) == TECO_END && steps == 0 && stopped_inside(TECO_NOWHERE, 0) && is_untold(0));
     teco_stopper_close(&here);
     teco_stopper_close(&there);
     teco_close(&t);
@@ -166,7 +193,7 @@ static void breaks(void)
     HOLDS(until(&t, "4=", 1, &here) == TECO_TTY && steps == 1);
     HOLDS(teco_stop(&there, 1) == 0);
     HOLDS(until(&t, " 5=", 64, &here) == TECO_LIM && n == 0 && steps == 0 && stopped(1, 0));
-    HOLDS(until(&t, "6=", 64, &there) == TECO_LIM && steps == 0 && where(&t, "7=", 64) == 0 && run(&t, "8=", 64) == 0);
+    HOLDS(until(&t, "6=", 64, &there) == TECO_LIM && steps == 0 && run(&t, "7=", 64) == 0 && run(&t, "8=", 64) == 0);
     HOLDS(until(&t, "", 64, &here) == 0 && steps == 0 && stopped(TECO_NOWHERE, 0));
     HOLDS(teco_strings(&t, &n) == 0 && n == 9 && teco_undo(&t) == 0 && teco_redo(&t) == 0);
     HOLDS(teco_stop(&here, 0) == 0 && until(&t, "9=", 64, &here) == 0 && has("9\r\n"));
@@ -183,20 +210,18 @@ static void breaks(void)
     teco_close(&t);
 }
 
-static size_t from, to, size;
-static uint8_t kind;
+static struct teco_token seen;
 
 static uint8_t token(const char *text, size_t place)
 {
-    from = to = size = 99;
-    kind = 99;
-    return teco_token(bytes(text), strlen(text), place, &from, &to, &kind, &size);
+    seen = (struct teco_token){.from = 99, .to = 99, .kind = 99, .size = 99};
+    return teco_token(bytes(text), strlen(text), place, &seen);
 }
 
 /* Whether a token was read between two places, with a text of so many bytes. */
 static int read_there(size_t begins, size_t ends, uint8_t is, size_t text)
 {
-    return from == begins && to == ends && kind == is && size == text;
+    return seen.from == begins && seen.to == ends && seen.kind == is && seen.size == text;
 }
 
 static void tokens(void)
@@ -297,23 +322,22 @@ static void looks(void)
 /* Whether change k of string i is of this kind, for this register, after so many steps. */
 static int is(const struct teco *t, size_t i, size_t k, uint8_t kind, uint8_t name, uint64_t step)
 {
-    uint8_t told_kind, told_name;
-    uint64_t told_step;
-    return teco_change(t, i, k, &told_kind, &told_name, &told_step) == 0 && told_kind == kind && told_name == name && told_step == step;
+    struct teco_change change;
+    return teco_change(t, i, k, &change) == 0 && change.kind == kind && change.name == name && change.step == step;
 }
 
 /* Whether it takes so many bytes out at a place, and puts so many in. */
 static int splices(const struct teco *t, size_t i, size_t k, size_t at, size_t gone, size_t came)
 {
-    size_t told_at, told_gone, told_came;
-    return teco_splice(t, i, k, &told_at, &told_gone, &told_came) == 0 && told_at == at && told_gone == gone && told_came == came;
+    struct teco_splice splice;
+    return teco_splice(t, i, k, &splice) == 0 && splice.at == at && splice.gone == gone && splice.came == came;
 }
 
 static void changes(void)
 {
     struct teco t = {0};
-    uint8_t kind = 1, name = 1;
-    size_t one = 1, two = 1;
+    struct teco_change change = {1, 1, 1};
+    struct teco_splice splice = {1, 1, 1};
     teco_open(&t, bytes("one\ftwo"), 7, 0);
     HOLDS(run(&t, "Iabc\0339J7UQ", 0) == 20);
     HOLDS(run(&t, "-DIxy\033@^U9/text/[9]Z", 0) == 0);
@@ -331,8 +355,8 @@ static void changes(void)
     HOLDS(is(&t, 2, 3, TECO_KIND_SEARCH, 0, 5) && is(&t, 2, 4, TECO_KIND_FOUND, 0, 5) && is(&t, 2, 5, TECO_KIND_POINT, 0, 5));
     HOLDS(is(&t, 2, 6, TECO_KIND_SPLICE, 0, 6) && is(&t, 2, 7, TECO_KIND_PAGES, 0, 6) && is(&t, 2, 8, TECO_KIND_DONE, 0, 6));
     HOLDS(teco_changes(&t, 3, &n) == TECO_OUTSIDE && n == 0);
-    HOLDS(teco_change(&t, 1, 5, &kind, &name, &steps) == TECO_OUTSIDE && kind == 0 && name == 0 && steps == 0);
-    HOLDS(teco_splice(&t, 1, 2, &n, &one, &two) == TECO_OUTSIDE && n == 0 && one == 0 && two == 0);
+    HOLDS(teco_change(&t, 1, 5, &change) == TECO_OUTSIDE && change.kind == 0 && change.name == 0 && change.step == 0);
+    HOLDS(teco_splice(&t, 1, 2, &splice) == TECO_OUTSIDE && splice.at == 0 && splice.gone == 0 && splice.came == 0);
     teco_close(&t);
 }
 
@@ -341,21 +365,15 @@ static void closed(void)
     struct teco t = {0};
     int32_t number = 1;
     uint64_t k = 1;
-    uint8_t kind = 1, name = 1;
-    size_t one = 1, two = 1, three = 1;
+    struct teco_change change = {1, 1, 1};
+    struct teco_splice splice = {1, 1, 1};
+    size_t one = 1;
     memset(room, '.', sizeof room);
-    n = steps = 1;
-    HOLDS(run(&t, "2=", 64) == TECO_CLOSED && n == 0 && steps == 0);
-    n = steps = at = calls = 1;
-    HOLDS(where(&t, "9J", 64) == TECO_CLOSED && n == 0 && steps == 0 && stopped(TECO_NOWHERE, 0));
+    HOLDS(run(&t, "2=", 64) == TECO_CLOSED && n == 0 && steps == 0 && stopped(TECO_NOWHERE, 0));
     struct teco_stopper here = {0}, there = {0};
-    n = steps = at = calls = 1;
-    HOLDS(until(&t, "9J", 64, &here) == TECO_CLOSED && n == 0 && steps == 0 && stopped(TECO_NOWHERE, 0));
     HOLDS(teco_stopper_open(&here, &there) == 0 && teco_stop(&there, 1) == 0);
-    n = steps = at = calls = 1;
     HOLDS(until(&t, "9J", 64, &here) == TECO_CLOSED && n == 0 && steps == 0 && stopped(TECO_NOWHERE, 0));
-    n = steps = at = calls = 1;
-    HOLDS(frames(&t, "9J", 3, &here) == TECO_CLOSED && n == 0 && steps == 0 && stopped(TECO_NOWHERE, 0) && is_untold(0));
+    HOLDS(frames(&t, "9J", 3, &here) == TECO_CLOSED && n == 0 && steps == 0 && stopped_inside(TECO_NOWHERE, 0) && is_untold(0));
     teco_stopper_close(&here);
     teco_stopper_close(&there);
     HOLDS(teco_undo(&t) == TECO_CLOSED && teco_redo(&t) == TECO_CLOSED && teco_rewind(&t, 0) == TECO_CLOSED);
@@ -366,8 +384,8 @@ static void closed(void)
     HOLDS(teco_steps(&t, 0, &k) == TECO_CLOSED && k == 0);
     HOLDS((one = 1, teco_string(&t, 0, room, 64, &one)) == TECO_CLOSED && one == 0);
     HOLDS((one = 1, teco_changes(&t, 0, &one)) == TECO_CLOSED && one == 0);
-    HOLDS((k = 1, teco_change(&t, 0, 0, &kind, &name, &k)) == TECO_CLOSED && kind == 0 && name == 0 && k == 0);
-    HOLDS((one = 1, teco_splice(&t, 0, 0, &one, &two, &three)) == TECO_CLOSED && one == 0 && two == 0 && three == 0);
+    HOLDS(teco_change(&t, 0, 0, &change) == TECO_CLOSED && change.kind == 0 && change.name == 0 && change.step == 0);
+    HOLDS(teco_splice(&t, 0, 0, &splice) == TECO_CLOSED && splice.at == 0 && splice.gone == 0 && splice.came == 0);
     HOLDS((one = 1, teco_length(&t, &one)) == TECO_CLOSED && one == 0);
     HOLDS((one = 1, teco_pointer(&t, &one)) == TECO_CLOSED && one == 0);
     HOLDS((one = 1, teco_text(&t, 0, room, 64, &one)) == TECO_CLOSED && one == 0);
@@ -387,11 +405,11 @@ static int told(const struct teco *t)
 {
     int32_t number;
     uint64_t k;
-    uint8_t kind, name;
-    size_t one, two;
+    struct teco_change change;
+    struct teco_splice splice;
     return (teco_strings(t, &n) == 0) + (teco_cursor(t, &n) == 0) + (teco_steps(t, 0, &k) == 0)
-        + (teco_string(t, 0, room, 64, &n) == 0) + (teco_changes(t, 0, &n) == 0) + (teco_change(t, 0, 0, &kind, &name, &k) == 0)
-        + (teco_splice(t, 0, 0, &n, &one, &two) == 0) + (teco_length(t, &n) == 0) + (teco_pointer(t, &n) == 0)
+        + (teco_string(t, 0, room, 64, &n) == 0) + (teco_changes(t, 0, &n) == 0) + (teco_change(t, 0, 0, &change) == 0)
+        + (teco_splice(t, 0, 0, &splice) == 0) + (teco_length(t, &n) == 0) + (teco_pointer(t, &n) == 0)
         + (teco_text(t, 0, room, 64, &n) == 0) + (teco_output(t, 0, room, 64, &n) == 0) + (teco_number(t, 'A', &number) == 0)
         + (teco_register(t, 'A', room, 64, &n) == 0) + (teco_search(t, room, 64, &n) == 0) + (teco_pushed(t, &n) == 0)
         + (teco_place(t, &n) == 0) + (teco_lines(t, 0, 9, &n) == 0) + (teco_input(t, 0, room, 64, &n) == 0)
@@ -402,20 +420,20 @@ static int told(const struct teco *t)
 static void unwritten(void)
 {
     struct teco *t = mmap(NULL, sizeof *t, PROT_READ, MAP_PRIVATE | MAP_ANONYMOUS, -1, 0);
-    HOLDS(t != MAP_FAILED && told(t) == 0 && run(t, "Y", 64) == TECO_CLOSED && where(t, "Y", 64) == TECO_CLOSED);
+    HOLDS(t != MAP_FAILED && told(t) == 0 && run(t, "Y", 64) == TECO_CLOSED);
     HOLDS(teco_undo(t) == TECO_CLOSED && teco_redo(t) == TECO_CLOSED && teco_rewind(t, 0) == TECO_CLOSED && teco_forget(t) == TECO_CLOSED);
     HOLDS(mprotect(t, sizeof *t, PROT_READ | PROT_WRITE) == 0 && teco_open(t, bytes("one"), 3, 0) == 0);
     HOLDS(mprotect(t, sizeof *t, PROT_READ) == 0);
     HOLDS(run(t, "YSe\033I.\033", 64) == 0 && told(t) == 22);
     HOLDS(teco_undo(t) == 0 && teco_redo(t) == 0 && teco_rewind(t, 1) == 0 && teco_undo(t) == 0 && teco_forget(t) == 0);
-    HOLDS(where(t, "J9J", 64) == 20 && stopped(2, 0));
-    HOLDS(frames(t, "@^UA/9J/MA", 3, &(struct teco_stopper){0}) == 20 && stopped(1, 1) && is_called(0, 8, 'A'));
+    HOLDS(run(t, "J9J", 64) == 20 && stopped(2, 0));
+    HOLDS(frames(t, "@^UA/9J/MA", 3, &(struct teco_stopper){0}) == 20 && stopped_inside(1, 1) && is_called(0, 8, 'A'));
     HOLDS(mprotect(t, sizeof *t, PROT_READ | PROT_WRITE) == 0);
     teco_close(t);
     munmap(t, sizeof *t);
 }
 
-/* The same of a stopper: no call but an open and a close writes it. */
+/* The same of a stopper, but for a run, which has it in a struct that it writes. */
 static void unwritten_stopper(void)
 {
     struct teco t = {0};
@@ -439,7 +457,7 @@ static void many(void)
         struct teco_stopper here = {0}, there = {0};
         HOLDS(teco_open(&t, bytes("in"), 2, (size_t)i % 3) == 0 && teco_stopper_open(&here, &there) == 0);
         HOLDS(run(&t, "YIab\033UA[A", 0) != TECO_MEM);
-        HOLDS(where(&t, "@^UA/3<9J>/2<MA>", 0) == 20 && stopped(13, 1));
+        HOLDS(run(&t, "@^UA/3<9J>/2<MA>", 0) == 20 && stopped(13, 1));
         HOLDS(teco_stop(i % 2 ? &here : &there, (uint8_t)(i % 3)) == 0 && until(&t, "J", 0, &here) == (i % 3 ? TECO_LIM : 0));
         if (i % 2)
             teco_undo(&t);
@@ -453,7 +471,7 @@ int main(void)
 {
     opens();
     runs();
-    wheres();
+    stops();
     breaks();
     open_calls();
     tokens();

@@ -16,14 +16,14 @@ static void show(const struct teco *t, const char *call, int answer)
 static void run(struct teco *t, const char *string)
 {
     uint8_t text[80], room[80];
-    size_t n = strlen(string), made;
-    uint64_t steps;
+    size_t n = strlen(string);
+    struct teco_run run = {.limit = 1000000, .room = room, .room_size = sizeof room, .frames = TECO_NO_FRAMES};
     for (size_t i = 0; i < n; i++)
         text[i] = string[i] == '$' ? 27 : (uint8_t)string[i];
-    int answer = teco_run(t, text, n, 1000000, room, sizeof room, &made, &steps);
+    int answer = teco_run(t, text, n, &run);
     show(t, string, answer);
-    if (made > 0)
-        printf("    it typed %.*s", (int)made, (const char *)room);
+    if (run.made > 0)
+        printf("    it typed %.*s", (int)run.made, (const char *)room);
 }
 
 int main(void)

@@ -1,8 +1,8 @@
 /*
  * Refuses each growth of a session in turn, and compares what is left with a session in ample memory that runs as many steps. Each undo,
- * redo and rewind, and each call that looks, is made where every growth is refused, and asks for none. All of it twice: with teco_run, and
- * with teco_where, which lacks a place only where a growth is refused in its string. Then each growth of a stopper. It wants allocator.c
- * before the C library's allocator. Prints what differs, and ends with status 1 where something does.
+ * redo and rewind, and each call that looks, is made where every growth is refused, and asks for none. A run lacks a place only where a
+ * growth is refused in its string. Then each growth of a stopper. It wants allocator.c before the C library's allocator. Prints what
+ * differs, and ends with status 1 where something does.
  */
 #include "teco.h"
 #include <dlfcn.h>
@@ -12,7 +12,7 @@
 
 static void (*begin)(long from, long to);
 static long (*end)(void);
-static int failed, asks_where;
+static int failed;
 
 static const char *const strings[] = {
     "Y", "Iaaaa\0330J<Saa\033;%A\033>", "@^UA/^UAy\033Ix\033/MA", "[A[Q]B]C", "3UQ10<QQ=QQ+1UQ>", "JFSa\033a long text that takes a place of its own\033",
@@ -27,19 +27,12 @@ static void wrong(const char *what, long nth, int i)
     failed = 1;
 }
 
-static uint8_t run(struct teco *t, int i, uint64_t limit, uint64_t *steps)
+/* Runs string i for so many steps. What it types is not kept. */
+static uint8_t run(struct teco *t, int i, uint64_t limit, struct teco_run *run)
 {
-    uint8_t room[4096];
-    size_t made;
-    return teco_run(t, (const uint8_t *)strings[i], strlen(strings[i]), limit, room, sizeof room, &made, steps);
-}
-
-/* The same, and asks where it stopped. */
-static uint8_t run_where(struct teco *t, int i, uint64_t limit, uint64_t *steps, size_t *at)
-{
-    uint8_t room[4096];
-    size_t made, calls;
-    return teco_where(t, (const uint8_t *)strings[i], strlen(strings[i]), limit, room, sizeof room, &made, steps, at, &calls);
+    static uint8_t room[4096];
+    *run = (struct teco_run){.limit = limit, .room = room, .room_size = sizeof room, .frames = TECO_NO_FRAMES};
+    return teco_run(t, (const uint8_t *)strings[i], strlen(strings[i]), run);
 }
 
 /* Whether two sessions show the same. */
@@ -72,11 +65,12 @@ static int same(struct teco *a, struct teco *b)
 /* Calls that may ask for nothing, where all is refused. They come back to where they began. */
 static void turn(struct teco *t, long nth, int i)
 {
-    uint8_t room[64], kind;
-    size_t n, from, to;
+    uint8_t room[64];
+    size_t n;
+    struct teco_token token;
     begin(1, LONG_MAX);
     int undone = teco_undo(t), redone = undone == 0 ? teco_redo(t) : 0;
-    teco_token((const uint8_t *)strings[i], strlen(strings[i]), 0, &from, &to, &kind, &n);
+    teco_token((const uint8_t *)strings[i], strlen(strings[i]), 0, &token);
     teco_lines(t, 0, SIZE_MAX, &n);
     teco_text(t, 0, room, sizeof room, &n);
     teco_string(t, 0, room, sizeof room, &n);
@@ -98,20 +92,19 @@ static long try(long nth)
     if (opened != 0 && (opened != TECO_MEM || t.at != NULL))
         wrong("a refused open is told or left otherwise", nth, -1);
     for (int i = 0; opened == 0 && i < STRINGS; i++) {
-        uint64_t steps, as_many;
-        size_t at = TECO_NOWHERE;
+        struct teco_run tried, as_many;
         long one = nth - counted;
         begin(one, one);
-        int code = asks_where ? run_where(&t, i, 40, &steps, &at) : run(&t, i, 40, &steps);
+        int code = run(&t, i, 40, &tried);
         long asked = end();
         counted += asked;
-        int lacks = asks_where && (at == TECO_NOWHERE) != (code == 0);
-        if (lacks && (at != TECO_NOWHERE || one < 1 || one > asked))
+        int lacks = (tried.at == TECO_NOWHERE) != (code == 0);
+        if (lacks && (tried.at != TECO_NOWHERE || one < 1 || one > asked))
             wrong("where it stopped is not told", nth, i);
-        if (code == TECO_NOT_BEGUN && steps != 0)
+        if (code == TECO_NOT_BEGUN && tried.steps != 0)
             wrong("a string that was not begun took steps", nth, i);
         if (code != TECO_NOT_BEGUN)
-            run(&twin, i, steps, &as_many);
+            run(&twin, i, tried.steps, &as_many);
         if (!same(&t, &twin))
             wrong("the state is not that of as many steps", nth, i);
         turn(&t, nth, i);
@@ -153,13 +146,11 @@ int main(void)
         puts("growths: allocator.c is not before the C library's allocator");
         return 2;
     }
-    for (asks_where = 0; asks_where < 2; asks_where++) {
-        long nth = 1;
-        while (nth < NEVER && try(nth) >= nth)
-            nth++;
-        printf("growths: %ld refused in turn%s: %s\n", nth - 1, asks_where ? ", with places" : "", failed ? "differs" : "ok");
-        failed |= nth < 20;
-    }
+    long nth = 1;
+    while (nth < NEVER && try(nth) >= nth)
+        nth++;
+    printf("growths: %ld refused in turn: %s\n", nth - 1, failed ? "differs" : "ok");
+    failed |= nth < 20;
     long refused = 0;
     while (refused < NEVER && try_stopper(refused + 1) > 0)
         refused++;

@@ -1,5 +1,5 @@
-/* Runs macros as deep as they go, in a thread with so many KB of stack, without and with their place. Prints the codes by which they end:
- * of a macro that calls itself, and of one that does so 32 times within 60 blocks each, and then passes over 60 blocks. */
+/* Runs macros as deep as they go, in a thread with so many KB of stack. Prints the codes by which they end: of a macro that calls itself,
+ * and of one that does so 32 times within 60 blocks each, and then passes over 60 blocks. */
 #include "teco.h"
 #include <pthread.h>
 #include <stdio.h>
@@ -27,13 +27,10 @@ static void *run(void *answer)
     const uint8_t *string = (const uint8_t *)deep->string;
     struct teco t = {0};
     uint8_t room[16];
-    size_t made, at, calls = 0;
-    uint64_t steps;
+    struct teco_run run = {.limit = 1000000, .room = room, .room_size = sizeof room, .frames = TECO_NO_FRAMES};
     teco_open(&t, (const uint8_t *)"", 0, 0);
-    int code = teco_run(&t, string, deep->size, 1000000, room, sizeof room, &made, &steps);
-    teco_undo(&t);
-    int again = teco_where(&t, string, deep->size, 1000000, room, sizeof room, &made, &steps, &at, &calls);
-    if (again == code && calls == deep->calls)
+    int code = teco_run(&t, string, deep->size, &run);
+    if (run.calls == deep->calls)
         deep->code = code;
     teco_undo(&t);
     teco_close(&t);

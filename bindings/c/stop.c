@@ -23,36 +23,34 @@ static void show(const struct teco *t, const char *when)
 }
 
 /* Runs a string of two inserts and a loop that goes on for ever. */
-static void run_and_break_off(struct teco *t, struct teco_stopper *here, struct teco_stopper *there)
+static void run_and_break_off(struct teco *t, struct teco_run *run, struct teco_stopper *there)
 {
     static const uint8_t TEXT[] = "Ia cat\33I sat\33<>";
-    const uint64_t limit = 1000000000;
-    uint8_t room[80];
-    size_t made, at, calls;
-    uint64_t steps;
     pthread_t thread;
     if (pthread_create(&thread, NULL, ask, there) != 0)
         return;
-    uint8_t code = teco_where_until(t, TEXT, sizeof TEXT - 1, limit, here, room, sizeof room, &made, &steps, &at, &calls);
+    uint8_t code = teco_run(t, TEXT, sizeof TEXT - 1, run);
     (void)pthread_join(thread, NULL);
     (void)teco_stop(there, 0);
-    if (code == TECO_LIM && steps < limit)
-        printf("broken off %s the loop\n", at >= 13 ? "inside of" : "before");
+    if (code == TECO_LIM && run->steps < run->limit)
+        printf("broken off %s the loop\n", run->at >= 13 ? "inside of" : "before");
 }
 
 int main(void)
 {
     struct teco t = {0};
-    struct teco_stopper here = {0}, there = {0};
-    if (teco_open(&t, (const uint8_t *)"", 0, 0) != 0 || teco_stopper_open(&here, &there) != 0)
+    struct teco_stopper there = {0};
+    uint8_t room[80];
+    struct teco_run run = {.limit = 1000000000, .room = room, .room_size = sizeof room, .frames = TECO_NO_FRAMES};
+    if (teco_open(&t, (const uint8_t *)"", 0, 0) != 0 || teco_stopper_open(&run.stopper, &there) != 0)
         return 1;
-    run_and_break_off(&t, &here, &there);
+    run_and_break_off(&t, &run, &there);
     show(&t, "kept");
     teco_rewind(&t, 1);
     show(&t, "after its first step");
     teco_undo(&t);
     show(&t, "undone");
-    teco_stopper_close(&here);
+    teco_stopper_close(&run.stopper);
     teco_stopper_close(&there);
     teco_close(&t);
     return 0;

@@ -16,10 +16,11 @@
  * POINTERS
  *   t           to a handle that is all zero, or as a call left it
  *   a text      to so many bytes that may be read, and not null, also where the number is 0
- *   a room      to so many bytes that may be written, and not null, also where the number is 0; the bytes may be anything
+ *   a room      to so many bytes, or calls, that may be written, and not null, also where the number is 0; they may be anything
+ *   a run       to a struct teco_run whose limit, stopper and rooms are set
  *   other ones  to one value that may be written; it may be anything
- *   A text and a room have at most PTRDIFF_MAX bytes. No two of a call's pointers lead to the same memory, and while a call runs nobody
- *   else reads or writes what they lead to. Nothing checks this: it is what the proofs of the library begin from.
+ *   A text and a room have at most PTRDIFF_MAX bytes. No two of a call's pointers, and of those in its run, lead to the same memory, and while
+ *   a call runs nobody else reads or writes what they lead to. Nothing checks this: it is what the proofs of the library begin from.
  *
  * UNITS
  *   Texts are bytes; places, lengths and rooms count bytes from 0; strings are counted from 0, the oldest one that is kept first; steps
@@ -28,7 +29,7 @@
  * ANSWERS
  *   0 is success. 1 to 32 are the numbers of the codes by which a command string, or a call, ends; those that a call itself can lead
  *   to have their names below. The four calls at the end answer 1 and 0 for yes and no. Each other call that answers something else
- *   than 0 has changed nothing, told 0 and copied nothing. Only teco_run, teco_where, teco_where_until, teco_frames and teco_token say otherwise.
+ *   than 0 has changed nothing, told 0 and copied nothing. Only teco_run and teco_token say otherwise.
  *
  * THREADS AND SIGNALS
  *   The handle of a session stays on the thread that opened it. Different sessions share nothing, and may be in calls at the same time on
@@ -36,10 +37,10 @@
  *
  * STOPPERS
  *   A stopper is a flag with two handles that are alike, each a `struct teco_stopper`: so a thread can ask for a stop while another one
- *   runs a string. The thread that runs gives its handle to teco_where_until or teco_frames, and the other one calls teco_stop with the other handle, at
- *   any time. What is said above of a handle holds for each of the two, but that each may go to another thread: by the start or the join
+ *   runs a string. The thread that runs has its handle in its struct teco_run, and the other one calls teco_stop with the other handle,
+ *   at any time. What is said above of a handle holds for each of the two, but that each may go to another thread: by the start or the join
  *   of a thread, under a lock, or by an atomic that is sequentially consistent. Each is in one call at a time, so where several threads
- *   ask, they share a handle under a lock.
+ *   ask, they share a handle under a lock. It may be moved into a struct teco_run for the time of a run, which leaves it as it was.
  *   No run takes a stop back: it stays asked until teco_stop takes it back. So one that is asked before a run begins breaks it off before
  *   its first step, and each run after it too. Who listens for a key while a string runs takes back what was asked, begins to listen,
  *   runs, and ends to listen. From a signal handler no stop is asked: a thread that waits for the signal asks it.
@@ -138,51 +139,56 @@ uint8_t teco_open(struct teco *t, const uint8_t *input, size_t n, size_t depth);
 /* Gives back all memory of the session, and leaves the handle closed and all zero. */
 void teco_close(struct teco *t);
 
-/*
- * Runs a command string of n bytes, for at most `limit` steps. ESC is byte 27; the string needs no two of them at its end.
- * What it types goes into the room, from its front on. A step that finds too little room left isn't done, and the string ends by
- * TECO_TTY; a beginning of what that step types may be in the room. `made` bytes were typed, no more than the room has, and what lies
- * behind them is not told. `steps` are the steps that were taken.
- *
- * 0 where the string ended well, or else the number of its code. It is noted, and can be undone, also where it ended by a code.
- * TECO_MEM: it ended for want of memory, after whole steps. TECO_END: an exit has ended the session, so it wasn't begun, and nothing
- * changed. TECO_NOT_BEGUN: no memory was found to note it, and nothing changed.
- * A string that is begun drops those that are undone, and with a depth the oldest one where there is one too many.
- */
-uint8_t teco_run(struct teco *t, const uint8_t *text, size_t n, uint64_t limit, uint8_t *room, size_t size, size_t *made, uint64_t *steps);
-
-/*
- * Runs a command string just as teco_run does, and tells where it stopped. `at` is the place in the string itself: of the command that
- * ended it by a code, of the one that can't be read, or of the one that comes next where the limit ended it. It is no more than n. Where
- * it stopped inside of macros, so many `calls` are open, and `at` is the place of the outermost one, as of the M in MA.
- * `at` is TECO_NOWHERE, and `calls` 0, where the string ended well or wasn't begun, on a closed handle, and where no memory was found for
- * the place: then it was run all the same. No call tells it later: who wants it calls this in place of teco_run.
- */
-uint8_t teco_where(struct teco *t, const uint8_t *text, size_t n, uint64_t limit, uint8_t *room, size_t size, size_t *made, uint64_t *steps,
-    size_t *at, size_t *calls);
-
-/*
- * Runs a command string just as teco_where does, and asks a stopper before each step. Is a stop asked, the string ends by TECO_LIM after
- * the `steps` that were done, just as under a limit of so many: it is noted, and undone, redone and rewound as any other; `at` is the
- * command that comes next. A step that has begun is done to its end, and a search is one step. A closed stopper asks for no stop.
- */
-uint8_t teco_where_until(struct teco *t, const uint8_t *text, size_t n, uint64_t limit, const struct teco_stopper *stopper, uint8_t *room,
-    size_t size, size_t *made, uint64_t *steps, size_t *at, size_t *calls);
-
 /* A call that is open: its place in the text that calls, as of the M in MA, and the name of the register whose text it calls. */
 struct teco_call {
     size_t at;
     uint8_t name;
 };
 
+/* Room for no byte, and for no call: a run may have these, with the size 0. */
+#define TECO_NO_ROOM ((uint8_t *)sizeof(uint8_t))
+#define TECO_NO_FRAMES ((struct teco_call *)sizeof(size_t))
+
 /*
- * Runs a command string just as teco_where_until does, and tells each call that is open where it stopped, the latest first, as many as
- * there is room for. `calls` are open, at most 32. `at` is the place in the innermost text: that of the register which the first of them
- * calls, or the string itself where none is open. The place of the last one is what teco_where_until tells as `at`. Elements of the room
- * behind those that were told stay as they were.
+ * What a run is given, and what it tells. The caller sets the first six before a call, and a call leaves them as they are, so they may
+ * serve for many. Each call sets the last five, whatever it answers; before it they may be anything.
+ * All zero it is a run of no step, with no stopper, and its two rooms have yet to be set: a room is not null, also where its size is 0.
  */
-uint8_t teco_frames(struct teco *t, const uint8_t *text, size_t n, uint64_t limit, const struct teco_stopper *stopper, uint8_t *room,
-    size_t size, size_t *made, uint64_t *steps, size_t *at, size_t *calls, struct teco_call *open, size_t most);
+struct teco_run {
+    uint64_t limit;              /* the most steps that the string may take; with 0 none is done */
+    struct teco_stopper stopper; /* asked before each step; all zero, or closed, it asks for no stop */
+    uint8_t *room;               /* what the string types goes here, from the front on; */
+    size_t room_size;            /* there is room for so many bytes */
+    struct teco_call *frames;    /* the calls that are open where it stopped go here, the latest first; */
+    size_t frames_size;          /* there is room for so many calls: never are more than 32 open */
+    size_t made;                 /* so many bytes were typed, no more than room_size */
+    uint64_t steps;              /* the string took so many steps */
+    size_t at;                   /* where it stopped in the string itself, or TECO_NOWHERE */
+    size_t inner;                /* where it stopped in the innermost text, or TECO_NOWHERE */
+    size_t calls;                /* so many calls were open there */
+};
+
+/*
+ * Runs a command string of n bytes. ESC is byte 27; the string needs no two of them at its end.
+ * A step that finds too little room left for what it types isn't done, and the string ends by TECO_TTY; a beginning of what that step
+ * types may be in the room. What lies behind the bytes that were typed is not told.
+ *
+ * 0 where the string ended well, or else the number of its code. It is noted, and can be undone, also where it ended by a code.
+ * TECO_MEM: it ended for want of memory, after whole steps. TECO_END: an exit has ended the session, so it wasn't begun, and nothing
+ * changed. TECO_NOT_BEGUN: no memory was found to note it, and nothing changed.
+ * A string that is begun drops those that are undone, and with a depth the oldest one where there is one too many.
+ *
+ * It stopped at the command that ended it by a code, at the one that can't be read, or at the one that comes next where the limit ended it
+ * or a stopper. `at` is its place in the string, no more than n. Where it stopped inside of macros, `at` is the place of the outermost
+ * call, as of the M in MA, and `inner` that of the command in the text of the register which the first of the frames calls; where no call
+ * is open, the two are the same. Frames behind those that were told stay as they were.
+ * `at` and `inner` are TECO_NOWHERE, and `calls` is 0, where the string ended well or wasn't begun, on a closed handle, and where no memory
+ * was found for the place: then it was run all the same. No call tells it later.
+ *
+ * Is a stop asked, the string ends by TECO_LIM after the `steps` that were done, just as under a limit of so many: it is noted, and undone,
+ * redone and rewound as any other. A step that has begun is done to its end, and a search is one step.
+ */
+uint8_t teco_run(struct teco *t, const uint8_t *text, size_t n, struct teco_run *run);
 
 /*
  * Opens a stopper, with two handles: no stop is asked. 0 or TECO_MEM. Where it isn't 0 both handles are as they were; where it is 0, what
@@ -212,14 +218,20 @@ uint8_t teco_rewind(struct teco *t, uint64_t n);
 /* Drops the strings that are undone, so that none is left to redo: 0. Nothing else changes. Asks for no memory; may be made after an exit. */
 uint8_t teco_forget(struct teco *t);
 
+/* A token: its first byte is at `from`, and `to` is the place behind its last. */
+struct teco_token {
+    size_t from;
+    size_t to;
+    uint8_t kind; /* its number above */
+    size_t size;  /* how many bytes its last text has, or the name of its tag, which ends at to - 1, where its delimiter stands; or 0 */
+};
+
 /*
  * Reads a text of n bytes, of no session: what stands at the place `at` after fillers, which are SP, CR, LF and NUL.
- * 0 for a token: its first byte is at `from`, and `to` is the place behind its last; `kind` is its number above, and `size` says how
- * many bytes its last text has, or the name of its tag, which ends at to - 1, where its delimiter stands; it is 0 where it has none.
- * TECO_NO_TOKEN where none is left, also where `at` is beyond n; TECO_UTC, TECO_ILL, TECO_IQN or TECO_IQC where none can be read. Then
- * `from` is the place after the fillers, `to` is n, and `kind` and `size` are 0. Asks for no memory.
+ * 0 for a token. TECO_NO_TOKEN where none is left, also where `at` is beyond n; TECO_UTC, TECO_ILL, TECO_IQN or TECO_IQC where none can be
+ * read. Then `from` is the place after the fillers, `to` is n, and `kind` and `size` are 0. Asks for no memory.
  */
-uint8_t teco_token(const uint8_t *text, size_t n, size_t at, size_t *from, size_t *to, uint8_t *kind, size_t *size);
+uint8_t teco_token(const uint8_t *text, size_t n, size_t at, struct teco_token *token);
 
 /* All that follows looks: it asks for no memory and changes nothing, neither the handle nor what it leads to. */
 
@@ -251,18 +263,27 @@ uint8_t teco_string(const struct teco *t, size_t i, uint8_t *room, size_t size, 
 /* How many changes string i has: 0 or TECO_OUTSIDE. A step makes at most six; many make none. */
 uint8_t teco_changes(const struct teco *t, size_t i, size_t *count);
 
-/*
- * What change k of string i is for, by its number above; the name of the register, A to Z or 0 to 9, or 0 where it is for none; and how
- * many steps of the string were done before it: 0 or TECO_OUTSIDE. Nothing else differs once it is turned.
- */
-uint8_t teco_change(const struct teco *t, size_t i, size_t k, uint8_t *kind, uint8_t *name, uint64_t *step);
+struct teco_change {
+    uint8_t kind;  /* what it is for, by its number above */
+    uint8_t name;  /* the name of the register, A to Z or 0 to 9, or 0 where it is for none */
+    uint64_t step; /* how many steps of the string were done before it */
+};
+
+/* What change k of string i is for: 0 or TECO_OUTSIDE. Nothing else differs once it is turned. */
+uint8_t teco_change(const struct teco *t, size_t i, size_t k, struct teco_change *change);
+
+/* At the place `at` the next turn takes `gone` bytes out, and puts `came` others in. */
+struct teco_splice {
+    size_t at;
+    size_t gone;
+    size_t came;
+};
 
 /*
- * Of change k of string i, where it is for bytes of the text: at the place `at` the next turn takes `gone` bytes out, and puts `came`
- * others in. 0, or TECO_OUTSIDE also where the change is for something else. The places are those of the text at the moment when the
- * turn comes to this change, after those that it turns before it.
+ * Of change k of string i, where it is for bytes of the text: 0, or TECO_OUTSIDE also where the change is for something else. The places
+ * are those of the text at the moment when the turn comes to this change, after those that it turns before it.
  */
-uint8_t teco_splice(const struct teco *t, size_t i, size_t k, size_t *at, size_t *gone, size_t *came);
+uint8_t teco_splice(const struct teco *t, size_t i, size_t k, struct teco_splice *splice);
 
 /* The length of the buffer's text, and the place of the pointer in it. */
 uint8_t teco_length(const struct teco *t, size_t *length);

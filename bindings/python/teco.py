@@ -58,26 +58,42 @@ class OpenCall(ctypes.Structure):
     _fields_ = [("at", c_size_t), ("name", c_uint8)]
 
 
+class Run(ctypes.Structure):
+    """What a run is given, and what it tells. It has a copy of its stopper's handle while it lasts, and leaves that as it was."""
+    _fields_ = [("limit", c_uint64), ("stopper", StopperHandle), ("room", POINTER(c_uint8)), ("room_size", c_size_t),
+                ("frames", POINTER(OpenCall)), ("frames_size", c_size_t), ("made", c_size_t), ("steps", c_uint64), ("at", c_size_t),
+                ("inner", c_size_t), ("calls", c_size_t)]
+
+
+class ToldToken(ctypes.Structure):
+    _fields_ = [("from", c_size_t), ("to", c_size_t), ("kind", c_uint8), ("size", c_size_t)]
+
+
+class ToldChange(ctypes.Structure):
+    _fields_ = [("kind", c_uint8), ("name", c_uint8), ("step", c_uint64)]
+
+
+class ToldSplice(ctypes.Structure):
+    _fields_ = [("at", c_size_t), ("gone", c_size_t), ("came", c_size_t)]
+
+
 def _calls():
     """The arguments of each call of teco.h, after its handle."""
-    size, word, byte = POINTER(c_size_t), POINTER(c_uint64), POINTER(c_uint8)
+    size, word = POINTER(c_size_t), POINTER(c_uint64)
     room = [c_void_p, c_size_t]
-    run = [c_void_p, c_size_t, c_uint64, *room, size, word]
     return {
         "open": [c_void_p, c_size_t, c_size_t],
-        "run": run, "where": [*run, size, size],
+        "run": [c_void_p, c_size_t, POINTER(Run)],
         "undo": [], "redo": [], "rewind": [c_uint64], "forget": [],
         "strings": [size], "cursor": [size], "steps": [c_size_t, word],
         "string": [c_size_t, *room, size], "changes": [c_size_t, size],
-        "change": [c_size_t, c_size_t, byte, byte, word],
-        "splice": [c_size_t, c_size_t, size, size, size],
+        "change": [c_size_t, c_size_t, POINTER(ToldChange)],
+        "splice": [c_size_t, c_size_t, POINTER(ToldSplice)],
         "length": [size], "pointer": [size], "lines": [c_size_t, c_size_t, size],
         "text": [c_size_t, *room, size], "output": [c_size_t, *room, size], "input": [c_size_t, *room, size],
         "number": [c_uint8, POINTER(c_int32)], "register": [c_uint8, *room, size],
         "search": [*room, size], "pushed": [size], "place": [size],
         "done": [], "found": [], "form_feed": [], "either_case": [],
-        "where_until": [*run[:3], POINTER(StopperHandle), *run[3:], size, size],
-        "frames": [*run[:3], POINTER(StopperHandle), *run[3:], size, size, POINTER(OpenCall), c_size_t],
     }
 
 
@@ -86,10 +102,8 @@ def _library():
     for name, arguments in _calls().items():
         call = getattr(library, "teco_" + name)
         call.argtypes, call.restype = [POINTER(Handle), *arguments], c_uint8
-    size = POINTER(c_size_t)
     library.teco_close.argtypes, library.teco_close.restype = [POINTER(Handle)], None
-    library.teco_token.argtypes = [c_void_p, c_size_t, c_size_t, size, size, POINTER(c_uint8), size]
-    library.teco_token.restype = c_uint8
+    library.teco_token.argtypes, library.teco_token.restype = [c_void_p, c_size_t, c_size_t, POINTER(ToldToken)], c_uint8
     stopper = POINTER(StopperHandle)
     library.teco_stopper_open.argtypes, library.teco_stopper_open.restype = [stopper, stopper], c_uint8
     library.teco_stopper_close.argtypes, library.teco_stopper_close.restype = [stopper], None
@@ -148,9 +162,9 @@ def _room(size):
 
 def token(text, at=0):
     """What stands at a place of a text, after fillers."""
-    text, begin, end, kind, size = _bytes(text), c_size_t(), c_size_t(), c_uint8(), c_size_t()
-    code = _teco().teco_token(text, len(text), _size(at), byref(begin), byref(end), byref(kind), byref(size))
-    return Token(code, begin.value, end.value, TOKENS[kind.value], size.value)
+    text, told = _bytes(text), ToldToken()
+    code = _teco().teco_token(text, len(text), _size(at), byref(told))
+    return Token(code, getattr(told, "from"), told.to, TOKENS[told.kind], told.size)
 
 
 class Refused(Exception):
@@ -265,37 +279,36 @@ class Session:
             raise TypeError(f"a Stopper is wanted, and not {type(stopper).__name__}")
         return stopper
 
-    def _run(self, name, text, limit, room, stopper, at, calls, *opened):
+    def _run(self, text, limit, room, stopper):
+        """Runs a command string: the number of its code, what it typed, its steps, what the run told, and each call that was open."""
         text, limit, typed, stopper = _bytes(text), _steps(limit), _room(room), self._stopper_of(stopper)
-        made, steps = c_size_t(), c_uint64()
-        given, told = (text, len(text), limit), [typed, len(typed) - 1, byref(made), byref(steps), byref(at), byref(calls)]
-        if stopper is None and opened:
-            answer = self._answer(name, *given, byref(StopperHandle()), *told, *opened)
-        elif stopper is None:
-            answer = self._answer(name, *given, *told[: 6 if name == "where" else 4])
+        calls = (OpenCall * MOST_CALLS)()
+        run = Run(limit=limit, room=ctypes.cast(typed, POINTER(c_uint8)), room_size=len(typed) - 1, frames=calls, frames_size=MOST_CALLS)
+        if stopper is None:
+            answer = self._answer("run", text, len(text), byref(run))
         else:
             with stopper._lent() as handle, breaking_off(stopper):
-                answer = self._answer("frames" if opened else "where_until", *given, byref(handle), *told, *opened)
+                run.stopper = handle
+                answer = self._answer("run", text, len(text), byref(run))
         if answer in (NOT_BEGUN, END, CLOSED):
             raise Refused(answer)
-        return answer, typed.raw[:made.value], steps.value
+        return (answer, typed.raw[:run.made], run.steps), run, calls[:run.calls]
 
     def run(self, text, limit=1000000, room=65536, stopper=None):
         """Runs a command string, and gives the number of its code, what it typed and its steps. If the stopper is asked meanwhile, the
         string is broken off: its code is LIM, and it is kept with the steps that it took. Ctrl-C does the same on the main thread."""
-        return self._run("run", text, limit, room, stopper, c_size_t(), c_size_t())
+        ran, _, _ = self._run(text, limit, room, stopper)
+        return ran
 
     def run_where(self, text, limit=1000000, room=65536, stopper=None):
         """Runs it just so, and gives also where it stopped: None where it ended well, or where no memory is found for the place."""
-        at, calls = c_size_t(), c_size_t()
-        ran = self._run("where", text, limit, room, stopper, at, calls)
-        return *ran, Place(at.value, calls.value) if at.value != NOWHERE else None
+        ran, run, _ = self._run(text, limit, room, stopper)
+        return *ran, Place(run.at, run.calls) if run.at != NOWHERE else None
 
     def run_frames(self, text, limit=1000000, room=65536, stopper=None):
         """Runs it just so, and gives also each call that was open where it stopped: None where run_where does."""
-        at, calls, opened = c_size_t(), c_size_t(), (OpenCall * MOST_CALLS)()
-        ran = self._run("frames", text, limit, room, stopper, at, calls, opened, MOST_CALLS)
-        return *ran, Frames(at.value, [Call(one.at, chr(one.name)) for one in opened[:calls.value]]) if at.value != NOWHERE else None
+        ran, run, calls = self._run(text, limit, room, stopper)
+        return *ran, Frames(run.inner, [Call(one.at, chr(one.name)) for one in calls]) if run.inner != NOWHERE else None
 
     def undo(self):
         self._call("undo")
@@ -353,14 +366,13 @@ class Session:
         return self._told(c_uint64, "steps", _size(i))
 
     def _change(self, i, k):
-        kind, name, step = c_uint8(), c_uint8(), c_uint64()
-        self._call("change", i, k, byref(kind), byref(name), byref(step))
-        change = Change(KINDS[kind.value], step.value, chr(name.value) if name.value else None)
+        told, splice = ToldChange(), ToldSplice()
+        self._call("change", i, k, byref(told))
+        change = Change(KINDS[told.kind], told.step, chr(told.name) if told.name else None)
         if change.kind != "splice":
             return change
-        at, gone, came = c_size_t(), c_size_t(), c_size_t()
-        self._call("splice", i, k, byref(at), byref(gone), byref(came))
-        return change._replace(at=at.value, gone=gone.value, came=came.value)
+        self._call("splice", i, k, byref(splice))
+        return change._replace(at=splice.at, gone=splice.gone, came=splice.came)
 
     def changes(self, i):
         """The changes of a string, in the order in which its steps made them."""

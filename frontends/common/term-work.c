@@ -123,10 +123,13 @@ uint8_t work_rewind(struct work *work, uint64_t steps)
 
 void work_run(struct work *work, const uint8_t *text, size_t n, uint64_t limit, const struct teco_stopper *asked, struct told *told)
 {
-    told->code = teco_frames(&work->session, text, n, limit, asked, work->room, ROOM, &told->made, &told->steps, &told->at, &told->calls,
-        told->open, CALLS);
-    if (told->calls > 0)
-        told->at = told->open[told->calls - 1].at;
+    struct teco_run run = {
+        .limit = limit, .stopper = *asked, .room = work->room, .room_size = ROOM, .frames = told->open, .frames_size = CALLS};
+    told->code = teco_run(&work->session, text, n, &run);
+    told->made = run.made;
+    told->steps = run.steps;
+    told->at = run.at;
+    told->calls = run.calls;
 }
 
 /* Runs a string, which Ctrl-C breaks off. */

@@ -7,11 +7,11 @@
    that of another tag, and not a tag. Tells whether it is an FS, and how many bytes its last text has. */
 static bool is_text(const uint8_t *text, size_t n, size_t at, bool *is_replace, size_t *size)
 {
-    size_t from, to;
-    uint8_t kind;
-    bool is_whole = teco_token(text, n, at, &from, &to, &kind, size) == 0 && to == n;
-    *is_replace = kind == TECO_TOKEN_REPLACE;
-    return is_whole && (*is_replace || kind == TECO_TOKEN_TEXT || kind == TECO_TOKEN_SET_TEXT);
+    struct teco_token token;
+    bool is_whole = teco_token(text, n, at, &token) == 0 && token.to == n;
+    *is_replace = token.kind == TECO_TOKEN_REPLACE;
+    *size = token.size;
+    return is_whole && (*is_replace || token.kind == TECO_TOKEN_TEXT || token.kind == TECO_TOKEN_SET_TEXT);
 }
 
 /* Puts a byte at the end of the text, once or twice, by which the token at a place becomes whole. How often; 0 where that is no text. */

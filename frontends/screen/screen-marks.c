@@ -23,16 +23,20 @@ struct splice {
     bool is_marked;
 };
 
+/* Whether change k is for the place in the input, in this step. */
+static bool is_of_pages(const struct teco *t, size_t string, size_t k, uint64_t step)
+{
+    struct teco_change change;
+    return teco_change(t, string, k, &change) == 0 && change.kind == TECO_KIND_PAGES && change.step == step;
+}
+
 /* Whether change k is for a page that was read: its step moves the place in the input, too. Such bytes are not marked. */
 static bool is_of_page(const struct teco *t, size_t string, size_t k)
 {
-    uint8_t kind, name;
-    uint64_t step, other;
-    if (teco_change(t, string, k, &kind, &name, &step) != 0)
+    struct teco_change change;
+    if (teco_change(t, string, k, &change) != 0)
         return false;
-    if (k > 0 && teco_change(t, string, k - 1, &kind, &name, &other) == 0 && kind == TECO_KIND_PAGES && other == step)
-        return true;
-    return teco_change(t, string, k + 1, &kind, &name, &other) == 0 && kind == TECO_KIND_PAGES && other == step;
+    return (k > 0 && is_of_pages(t, string, k - 1, change.step)) || is_of_pages(t, string, k + 1, change.step);
 }
 
 /* Puts what is left of a piece in its place, before and behind the bytes that came. */
@@ -96,9 +100,10 @@ struct same mark_changes(const struct teco *t, struct view *view)
     if (changes > MOST_CHANGES)
         return (struct same){0};
     for (size_t k = changes; k-- > 0;) {
-        struct splice splice;
-        if (teco_splice(t, strings - 1, k, &splice.at, &splice.gone, &splice.came) != 0 || (splice.gone == 0 && splice.came == 0))
+        struct teco_splice told;
+        if (teco_splice(t, strings - 1, k, &told) != 0 || (told.gone == 0 && told.came == 0))
             continue;
+        struct splice splice = {.at = told.at, .gone = told.gone, .came = told.came};
         length = narrow(&same, &splice, length);
         splice.is_marked = !is_of_page(t, strings - 1, k);
         for (size_t i = pieces.count; i-- > 0 && follow_piece(&pieces, i, &splice);)

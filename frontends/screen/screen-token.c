@@ -5,9 +5,9 @@
 /* How many bytes of a fault there are: the least that are one. */
 static size_t fault_size(const uint8_t *text, size_t n)
 {
-    size_t from, to, size, count = 1;
-    uint8_t kind;
-    while (count < n && teco_token(text, count, 0, &from, &to, &kind, &size) == CODE_UTC)
+    size_t count = 1;
+    struct teco_token token;
+    while (count < n && teco_token(text, count, 0, &token) == CODE_UTC)
         count++;
     return count;
 }
@@ -19,14 +19,13 @@ struct token token_at(const uint8_t *text, size_t n, size_t at)
         [TECO_TOKEN_TEXT] = TEXT_COMMAND, [TECO_TOKEN_JUMP] = TEXT_COMMAND, [TECO_TOKEN_SET_TEXT] = TEXT_COMMAND,
         [TECO_TOKEN_REPLACE] = TEXT_COMMAND, [TECO_TOKEN_MARK] = BLOCK, [TECO_TOKEN_TEST] = BLOCK, [TECO_TOKEN_TAG] = TEXT_COMMAND,
         [TECO_TOKEN_ESCAPE] = BLANK};
-    struct token token = {.kind = BLANK};
-    size_t size;
-    uint8_t kind;
-    uint8_t answer = teco_token(text, n, at, &token.from, &token.to, &kind, &size);
-    if (token.from > at)
-        return (struct token){.kind = BLANK, .from = at, .to = token.from};
+    struct teco_token told;
+    uint8_t answer = teco_token(text, n, at, &told);
+    if (told.from > at)
+        return (struct token){.kind = BLANK, .from = at, .to = told.from};
+    struct token token = {.kind = BLANK, .from = told.from, .to = told.to};
     if (answer == 0)
-        token.kind = OF[kind];
+        token.kind = OF[told.kind];
     else if (answer == CODE_UTC)
         token.kind = CUT;
     else if (answer != TECO_NO_TOKEN)

@@ -96,44 +96,56 @@ impl Session {
 
     /// Runs a command string for at most `limit` steps. It can type `room` bytes; one that would type more ends by code 29, TTY.
     pub fn run(&mut self, text: &[u8], limit: u64, room: usize) -> Outcome {
-        ran(room, |typed, made, steps| unsafe {
-            raw::teco_run(&mut self.handle, text.as_ptr(), text.len(), limit, typed, room, made, steps)
-        })
+        self.run_where(text, limit, room).0
     }
 
     /// Runs a command string as [`Session::run`] does, and tells where it stopped: nowhere where it ended well or was not begun, or where
     /// no memory is found for the place.
     pub fn run_where(&mut self, text: &[u8], limit: u64, room: usize) -> (Outcome, Option<Place>) {
-        let (mut at, mut calls) = (NOWHERE, 0);
-        let outcome = ran(room, |typed, made, steps| unsafe {
-            raw::teco_where(
-                &mut self.handle, text.as_ptr(), text.len(), limit, typed, room, made, steps, &mut at, &mut calls)
-        });
-        (outcome, (at != NOWHERE).then_some(Place { at, calls }))
+        let (outcome, run) = self.run_as(text, limit, room, Stopper::CLOSED, &mut []);
+        (outcome, place_of(&run))
     }
 
     /// Runs a command string as [`Session::run_where`] does, until a stop is asked by the other handle of the stopper. Then it ends by code
     /// 27, LIM, just as if the steps that it took had been its limit: it is noted, and undone, redone and rewound as any other.
     pub fn run_until(&mut self, text: &[u8], limit: u64, room: usize, stopper: &Stopper) -> (Outcome, Option<Place>) {
-        let (mut at, mut calls) = (NOWHERE, 0);
-        let outcome = ran(room, |typed, made, steps| unsafe {
-            raw::teco_where_until(
-                &mut self.handle, text.as_ptr(), text.len(), limit, stopper.raw(), typed, room, made, steps, &mut at, &mut calls)
-        });
-        (outcome, (at != NOWHERE).then_some(Place { at, calls }))
+        let (outcome, run) = self.run_as(text, limit, room, stopper.raw(), &mut []);
+        (outcome, place_of(&run))
     }
 
     /// Runs a command string as [`Session::run_until`] does, and tells each call that is open where it stopped.
     pub fn run_frames(&mut self, text: &[u8], limit: u64, room: usize, stopper: &Stopper) -> (Outcome, Option<Frames>) {
-        let (mut at, mut calls) = (NOWHERE, 0);
-        let mut open = [raw::Call { at: 0, name: 0 }; MOST_CALLS];
-        let outcome = ran(room, |typed, made, steps| unsafe {
-            raw::teco_frames(
-                &mut self.handle, text.as_ptr(), text.len(), limit, stopper.raw(), typed, room, made, steps, &mut at, &mut calls,
-                open.as_mut_ptr(), MOST_CALLS)
-        });
-        let calls = open.iter().take(calls).map(|call| Call { at: call.at, name: call.name }).collect();
-        (outcome, (at != NOWHERE).then_some(Frames { at, calls }))
+        let mut frames = [raw::Call { at: 0, name: 0 }; MOST_CALLS];
+        let (outcome, run) = self.run_as(text, limit, room, stopper.raw(), &mut frames);
+        let calls = frames.iter().take(run.calls).map(|call| Call { at: call.at, name: call.name }).collect();
+        (outcome, (run.inner != NOWHERE).then_some(Frames { at: run.inner, calls }))
+    }
+
+    /// Runs a command string with room for so many bytes. Where no memory is found for the room, it is not begun.
+    fn run_as(&mut self, text: &[u8], limit: u64, room: usize, stopper: raw::Stopper, frames: &mut [raw::Call]) -> (Outcome, raw::Run) {
+        let mut typed = Vec::new();
+        let has_room = typed.try_reserve_exact(room).is_ok();
+        let mut run = raw::Run {
+            limit,
+            stopper,
+            room: typed.as_mut_ptr(),
+            room_size: room,
+            frames: frames.as_mut_ptr(),
+            frames_size: frames.len(),
+            made: 0,
+            steps: 0,
+            at: NOWHERE,
+            inner: NOWHERE,
+            calls: 0,
+        };
+        let code = if has_room {
+            unsafe { raw::teco_run(&mut self.handle, text.as_ptr(), text.len(), &mut run) }
+        } else {
+            NOT_BEGUN
+        };
+        // The call has written the first `made` bytes of the room, and `made` is no more than the room.
+        unsafe { typed.set_len(run.made) };
+        (Outcome { typed, steps: run.steps, stop: stop_of(code) }, run)
     }
 
     /// Goes back by a string. Asks for no memory.
@@ -186,16 +198,16 @@ impl Session {
     }
 
     fn change(&self, i: usize, k: usize) -> Option<Change> {
-        let (mut kind, mut name, mut step) = (0, 0, 0);
-        unsafe { raw::teco_change(&self.handle, i, k, &mut kind, &mut name, &mut step) };
-        let kind = if kind == SPLICE { self.splice(i, k) } else { Kind::of(kind, name)? };
-        Some(Change { kind, step })
+        let mut told = raw::Change::default();
+        unsafe { raw::teco_change(&self.handle, i, k, &mut told) };
+        let kind = if told.kind == SPLICE { self.splice(i, k) } else { Kind::of(told.kind, told.name)? };
+        Some(Change { kind, step: told.step })
     }
 
     fn splice(&self, i: usize, k: usize) -> Kind {
-        let (mut at, mut gone, mut came) = (0, 0, 0);
-        unsafe { raw::teco_splice(&self.handle, i, k, &mut at, &mut gone, &mut came) };
-        Kind::Splice { at, gone, came }
+        let mut told = raw::Splice::default();
+        unsafe { raw::teco_splice(&self.handle, i, k, &mut told) };
+        Kind::Splice { at: told.at, gone: told.gone, came: told.came }
     }
 
     /// The text of the buffer.
@@ -297,23 +309,19 @@ impl Session {
     }
 }
 
-/// What a string comes to that is run so, with room for so many bytes. Where no memory is found for the room, it is not begun.
-fn ran(room: usize, call: impl FnOnce(*mut u8, *mut usize, *mut u64) -> u8) -> Outcome {
-    let mut typed = Vec::new();
-    let (mut made, mut steps) = (0, 0);
-    let code = match typed.try_reserve_exact(room) {
-        Err(_) => NOT_BEGUN,
-        Ok(()) => call(typed.as_mut_ptr(), &mut made, &mut steps),
-    };
-    // The call has written the first `made` bytes of the room, and `made` is no more than the room.
-    unsafe { typed.set_len(made) };
-    let stop = match code {
+/// Why a string stopped whose run has this answer.
+fn stop_of(code: u8) -> Option<Stop> {
+    match code {
         0 => None,
         END => Some(Stop::AfterExit),
         NOT_BEGUN => Some(Stop::NotBegun),
         code => Some(Stop::Code(code)),
-    };
-    Outcome { typed, steps, stop }
+    }
+}
+
+/// Where a string stopped, if it is told.
+fn place_of(run: &raw::Run) -> Option<Place> {
+    (run.at != NOWHERE).then_some(Place { at: run.at, calls: run.calls })
 }
 
 fn turned(answer: u8) -> Result<(), Nothing> {

@@ -7,7 +7,9 @@ pub struct Handle {
     pub at: *mut c_void,
 }
 
+/// A run has a copy of the handle while it lasts, and leaves it as it was.
 #[repr(C)]
+#[derive(Clone, Copy)]
 pub struct Stopper {
     pub at: *mut c_void,
 }
@@ -19,59 +21,50 @@ pub struct Call {
     pub name: u8,
 }
 
+#[repr(C)]
+pub struct Run {
+    pub limit: u64,
+    pub stopper: Stopper,
+    pub room: *mut u8,
+    pub room_size: usize,
+    pub frames: *mut Call,
+    pub frames_size: usize,
+    pub made: usize,
+    pub steps: u64,
+    pub at: usize,
+    pub inner: usize,
+    pub calls: usize,
+}
+
+#[repr(C)]
+#[derive(Default)]
+pub struct Token {
+    pub from: usize,
+    pub to: usize,
+    pub kind: u8,
+    pub size: usize,
+}
+
+#[repr(C)]
+#[derive(Default)]
+pub struct Change {
+    pub kind: u8,
+    pub name: u8,
+    pub step: u64,
+}
+
+#[repr(C)]
+#[derive(Default)]
+pub struct Splice {
+    pub at: usize,
+    pub gone: usize,
+    pub came: usize,
+}
+
 extern "C" {
     pub fn teco_open(t: *mut Handle, input: *const u8, n: usize, depth: usize) -> u8;
     pub fn teco_close(t: *mut Handle);
-    pub fn teco_run(
-        t: *mut Handle,
-        text: *const u8,
-        n: usize,
-        limit: u64,
-        room: *mut u8,
-        size: usize,
-        made: *mut usize,
-        steps: *mut u64,
-    ) -> u8;
-    pub fn teco_where(
-        t: *mut Handle,
-        text: *const u8,
-        n: usize,
-        limit: u64,
-        room: *mut u8,
-        size: usize,
-        made: *mut usize,
-        steps: *mut u64,
-        at: *mut usize,
-        calls: *mut usize,
-    ) -> u8;
-    pub fn teco_where_until(
-        t: *mut Handle,
-        text: *const u8,
-        n: usize,
-        limit: u64,
-        s: *const Stopper,
-        room: *mut u8,
-        size: usize,
-        made: *mut usize,
-        steps: *mut u64,
-        at: *mut usize,
-        calls: *mut usize,
-    ) -> u8;
-    pub fn teco_frames(
-        t: *mut Handle,
-        text: *const u8,
-        n: usize,
-        limit: u64,
-        s: *const Stopper,
-        room: *mut u8,
-        size: usize,
-        made: *mut usize,
-        steps: *mut u64,
-        at: *mut usize,
-        calls: *mut usize,
-        open: *mut Call,
-        most: usize,
-    ) -> u8;
+    pub fn teco_run(t: *mut Handle, text: *const u8, n: usize, run: *mut Run) -> u8;
     pub fn teco_stopper_open(here: *mut Stopper, there: *mut Stopper) -> u8;
     pub fn teco_stopper_close(s: *mut Stopper);
     pub fn teco_stop(s: *const Stopper, asked: u8) -> u8;
@@ -79,22 +72,14 @@ extern "C" {
     pub fn teco_redo(t: *mut Handle) -> u8;
     pub fn teco_rewind(t: *mut Handle, n: u64) -> u8;
     pub fn teco_forget(t: *mut Handle) -> u8;
-    pub fn teco_token(
-        text: *const u8,
-        n: usize,
-        at: usize,
-        from: *mut usize,
-        to: *mut usize,
-        kind: *mut u8,
-        size: *mut usize,
-    ) -> u8;
+    pub fn teco_token(text: *const u8, n: usize, at: usize, token: *mut Token) -> u8;
     pub fn teco_strings(t: *const Handle, count: *mut usize) -> u8;
     pub fn teco_cursor(t: *const Handle, count: *mut usize) -> u8;
     pub fn teco_steps(t: *const Handle, i: usize, steps: *mut u64) -> u8;
     pub fn teco_string(t: *const Handle, i: usize, room: *mut u8, size: usize, length: *mut usize) -> u8;
     pub fn teco_changes(t: *const Handle, i: usize, count: *mut usize) -> u8;
-    pub fn teco_change(t: *const Handle, i: usize, k: usize, kind: *mut u8, name: *mut u8, step: *mut u64) -> u8;
-    pub fn teco_splice(t: *const Handle, i: usize, k: usize, at: *mut usize, gone: *mut usize, came: *mut usize) -> u8;
+    pub fn teco_change(t: *const Handle, i: usize, k: usize, change: *mut Change) -> u8;
+    pub fn teco_splice(t: *const Handle, i: usize, k: usize, splice: *mut Splice) -> u8;
     pub fn teco_length(t: *const Handle, length: *mut usize) -> u8;
     pub fn teco_pointer(t: *const Handle, pointer: *mut usize) -> u8;
     pub fn teco_text(t: *const Handle, from: usize, room: *mut u8, size: usize, length: *mut usize) -> u8;

@@ -13,15 +13,14 @@ pub struct Stopper {
 unsafe impl Send for Stopper {}
 
 impl Stopper {
+    /// A handle that asks for no stop.
+    pub(crate) const CLOSED: raw::Stopper = raw::Stopper { at: ptr::null_mut() };
+
     /// Both handles of a new flag, which isn't asked, or none if memory is refused.
     pub fn pair() -> Option<(Stopper, Stopper)> {
-        let (mut here, mut there) = (Stopper::closed(), Stopper::closed());
+        let (mut here, mut there) = (Stopper { handle: Stopper::CLOSED }, Stopper { handle: Stopper::CLOSED });
         let answer = unsafe { raw::teco_stopper_open(&mut here.handle, &mut there.handle) };
         (answer == 0).then_some((here, there))
-    }
-
-    fn closed() -> Stopper {
-        Stopper { handle: raw::Stopper { at: ptr::null_mut() } }
     }
 
     /// Asks to stop: a string that runs with the other handle is broken off before its next step. It stays asked until it is taken back, so
@@ -35,8 +34,9 @@ impl Stopper {
         unsafe { raw::teco_stop(&self.handle, 0) };
     }
 
-    pub(crate) fn raw(&self) -> *const raw::Stopper {
-        &self.handle
+    /// The handle, for a run, which leaves it as it was.
+    pub(crate) fn raw(&self) -> raw::Stopper {
+        self.handle
     }
 }
 

@@ -45,12 +45,12 @@ const NO_TOKEN: u8 = 250;
 
 /// What stands at a place of a text after fillers: a token, nothing at its end, or a fault.
 pub fn token(text: &[u8], at: usize) -> Result<Option<Token>, Fault> {
-    let (mut from, mut to, mut kind, mut size) = (0, 0, 0, 0);
-    let answer = unsafe { raw::teco_token(text.as_ptr(), text.len(), at, &mut from, &mut to, &mut kind, &mut size) };
+    let mut told = raw::Token::default();
+    let answer = unsafe { raw::teco_token(text.as_ptr(), text.len(), at, &mut told) };
     match answer {
-        0 => Ok(TokenKind::of(kind).map(|kind| Token { from, to, kind, size })),
+        0 => Ok(TokenKind::of(told.kind).map(|kind| Token { from: told.from, to: told.to, kind, size: told.size })),
         NO_TOKEN => Ok(None),
-        code => Err(Fault { at: from, code }),
+        code => Err(Fault { at: told.from, code }),
     }
 }
 

@@ -1,18 +1,18 @@
 //! The calls that make, change and end a session.
-ghost use Rattle.std.specs.Prelude.{◌≡◌, ◌≢◌, ◌⊎◌, ◌↔◌, ◌<◌, ◌≤◌, length, take, IfOk, None, Some};
+ghost use Rattle.std.specs.Prelude.{◌≡◌, ◌≢◌, ◌⊎◌, ◌↔◌, ◌<◌, ◌≤◌, length, IfOk, None, Some};
 ghost use Rattle.teco_core.specs.Code.{number_of};
 ghost use Rattle.teco_core.specs.declared.code.Code.TheVariants.{Mem};
 ghost use Rattle.teco_session.specs.Kept.{new_session};
-ghost use Rattle.teco_session.specs.declared.request.Answer.{Answer as RunAnswer};
-ghost use Rattle.teco_ffi.specs.Calls.{StaysClosed, Undoes, Redoes, Rewinds, Forgets, RunsTo, depth_asked};
+ghost use Rattle.teco_ffi.specs.Calls.{StaysClosed, Undoes, Redoes, Rewinds, Forgets, depth_asked};
 ghost use Rattle.teco_ffi.specs.Handle.{SessionGoes};
-ghost use Rattle.teco_ffi.specs.Numbers.{answer_number, steps_of};
+ghost use Rattle.teco_ffi.specs.Runs.{KeepsGiven, TellsNothing, TellsRun};
 
-use crate::answers::{CLOSED, DEEP, LARGE, number_of_answer, steps_of_answer};
+use crate::answers::{CLOSED, DEEP, LARGE, NOWHERE};
 use crate::handle::Teco;
 use std::alloc::Global;
 use teco_core::{Code, DEPTH_LIMIT, FILE_LIMIT};
-use teco_ffi::calls::{run_in, session_over, undo};
+use teco_ffi::calls::{session_over, undo};
+use teco_ffi::runs::Run;
 
 /// Opens a handle: a session over a copy of the input, that keeps the last `depth` strings, or all of them where that is 0. What was
 /// open in it is freed then.
@@ -104,33 +104,23 @@ pub extern "C" fn teco_forget(t: &mut Teco) -> u8
     0
 }
 
-/// Runs a command string under a limit of steps. Typed bytes go to the room, and where too little of it is left for a put the terminal
-/// fails, so that the string ends by TTY after whole steps.
+/// Runs a command string as the run says: under its limit, until its stopper asks to stop. Typed bytes go to its room, and where too
+/// little of that is left for a put the terminal fails, so that the string ends by TTY after whole steps.
 ///
-/// The number of its code, or 0; `made` bytes were typed, and the string took `steps` steps.
+/// The number of its code, or 0. The run tells how many bytes were typed, how many steps the string took, and where it stopped. It stopped
+/// NOWHERE where it ended well or was not begun; and where memory lacks for the place, though the string was run.
 #[unsafe(no_mangle)]
-pub extern "C" fn teco_run(
-    t: &mut Teco,
-    text: &[u8],
-    limit: u64,
-    room: &mut [u8],
-    made: &mut usize,
-    steps: &mut u64,
-) -> u8
+pub extern "C" fn teco_run(t: &mut Teco, text: &[u8], run: &mut Run) -> u8
     ensures open { SessionGoes t.old.value t.new.value
-        (λ old new. (answer : RunAnswer) × (result ≡ answer_number answer)
-        × (steps.new ≡ steps_of answer) × RunsTo limit old text.now answer (take made.new room.new) new) }
-    ensures within { made.new ≤ length room.new }
+        (λ old new. TellsRun old text.now result run.old run.new new) }
+    ensures within { run.new.made ≤ length run.new.room.now }
+    ensures inside { (run.new.at ≡ NOWHERE) ⊎ (run.new.at ≤ length text.now) }
+    ensures given { KeepsGiven run.old run.new }
     ensures closed { StaysClosed t.old.value result t.new.value }
-    ensures nothing { t.old.value ≡ None → (made.new ≡ 0) × (steps.new ≡ 0) × (room.new ≡ room.old) }
+    ensures nothing { t.old.value ≡ None → TellsNothing run.old run.new }
 {
     let Some(session) = t.session() else {
-        *made = 0;
-        *steps = 0;
-        return CLOSED;
+        return run.on_none();
     };
-    let (answer, count) = run_in(session, text, limit, room);
-    *made = count;
-    *steps = steps_of_answer(answer);
-    number_of_answer(answer)
+    run.on(session, text)
 }

@@ -10,6 +10,22 @@ use crate::kinds::{name_in_kind, number_of_kind};
 use teco_session::{Changes, Session};
 use teco_store::ChangeKind;
 
+/// What a change is for: the number of its kind, the name of the register or 0, and how many steps of the string were done before it.
+#[repr(C)]
+pub struct ToldChange {
+    pub kind: u8,
+    pub name: u8,
+    pub step: u64,
+}
+
+/// A splice: its place in the text, how many bytes a turn takes out there, and how many it puts in.
+#[repr(C)]
+pub struct ToldSplice {
+    pub at: usize,
+    pub gone: usize,
+    pub came: usize,
+}
+
 /// The changes of a string, if it has so many.
 fn with_change(session: &Session, i: usize, k: usize) -> Option<&Changes>
     ensures { MatchOption result (change_of i k session.now ≡ None) (λ changes. (k < length changes.now)
@@ -40,64 +56,49 @@ pub extern "C" fn teco_changes(t: &mut Teco, i: usize, count: &mut usize) -> u8
     0
 }
 
-/// Writes what change `k` of string `i` is for: the number of its kind, the name of the register or 0, and how many steps of the string
-/// were done before it. Takes no memory.
+/// Tells what change `k` of string `i` is for. Takes no memory.
 #[unsafe(no_mangle)]
-pub extern "C" fn teco_change(
-    t: &mut Teco,
-    i: usize,
-    k: usize,
-    kind: &mut u8,
-    name: &mut u8,
-    step: &mut u64,
-) -> u8
-    ensures kind { TellsIf 0 t.old.value result kind.new
+pub extern "C" fn teco_change(t: &mut Teco, i: usize, k: usize, told: &mut ToldChange) -> u8
+    ensures kind { TellsIf 0 t.old.value result told.new.kind
         (λ kept. option_map kind_number (kind_at i k kept)) }
-    ensures name { TellsIf 0 t.old.value result name.new
+    ensures name { TellsIf 0 t.old.value result told.new.name
         (λ kept. option_map name_in (kind_at i k kept)) }
-    ensures step { TellsIf 0 t.old.value result step.new
+    ensures step { TellsIf 0 t.old.value result told.new.step
         (λ kept. option_map (λ change. change.step) (change_of i k kept)) }
     ensures same { t.new ≡ t.old }
 {
-    *kind = 0;
-    *name = 0;
-    *step = 0;
+    told.kind = 0;
+    told.name = 0;
+    told.step = 0;
     let Some(session) = t.look() else {
         return CLOSED;
     };
     match with_change(session, i, k) {
         None => OUTSIDE,
         Some(changes) => {
-            *kind = number_of_kind(changes.kind(k));
-            *name = name_in_kind(changes.kind(k));
-            *step = changes.step(k);
+            told.kind = number_of_kind(changes.kind(k));
+            told.name = name_in_kind(changes.kind(k));
+            told.step = changes.step(k);
             0
         }
     }
 }
 
-/// Writes of change `k` of string `i`, where it is a splice, its place in the text, how many bytes a turn takes out there, and how many
-/// it puts in: an undo, where the string is not undone, and else a redo. Takes no memory.
+/// Tells of change `k` of string `i`, where it is a splice, what the next turn does there: an undo, where the string is not undone, and
+/// else a redo. Takes no memory.
 #[unsafe(no_mangle)]
-pub extern "C" fn teco_splice(
-    t: &mut Teco,
-    i: usize,
-    k: usize,
-    at: &mut usize,
-    gone: &mut usize,
-    came: &mut usize,
-) -> u8
-    ensures at { TellsIf 0 t.old.value result at.new
+pub extern "C" fn teco_splice(t: &mut Teco, i: usize, k: usize, told: &mut ToldSplice) -> u8
+    ensures at { TellsIf 0 t.old.value result told.new.at
         (λ kept. option_map (λ splice. splice.at) (splice_of i k kept)) }
-    ensures gone { TellsIf 0 t.old.value result gone.new
+    ensures gone { TellsIf 0 t.old.value result told.new.gone
         (λ kept. option_map (λ splice. splice.gone) (splice_of i k kept)) }
-    ensures came { TellsIf 0 t.old.value result came.new
+    ensures came { TellsIf 0 t.old.value result told.new.came
         (λ kept. option_map (λ splice. splice.came) (splice_of i k kept)) }
     ensures same { t.new ≡ t.old }
 {
-    *at = 0;
-    *gone = 0;
-    *came = 0;
+    told.at = 0;
+    told.gone = 0;
+    told.came = 0;
     let Some(session) = t.look() else {
         return CLOSED;
     };
@@ -105,14 +106,10 @@ pub extern "C" fn teco_splice(
         return OUTSIDE;
     };
     match changes.kind(k) {
-        ChangeKind::Splice {
-            at: place,
-            gone: out,
-            came: put,
-        } => {
-            *at = place;
-            *gone = out;
-            *came = put;
+        ChangeKind::Splice { at, gone, came } => {
+            told.at = at;
+            told.gone = gone;
+            told.came = came;
             0
         }
         _ => OUTSIDE,

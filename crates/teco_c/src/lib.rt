@@ -5,9 +5,7 @@
 
 mod calls;
 mod changes;
-mod frames;
 mod history;
-mod places;
 mod state;
 mod stops;
 mod tokens;

@@ -1,12 +1,9 @@
 -- What is told of the calls that are open where a string stopped.
-use Rattle.std.specs.Prelude.{◌≡◌, ℕ, List, [], ◌++◌, length, take, drop, map, min, Option, Some, None, Result, Ok, Err}
+use Rattle.std.specs.Prelude.{ℕ, List, [], ◌++◌, length, take, drop, map, min, Option, Some, None, Result, Ok, Err}
 use Rattle.std.specs.declared.alloc.AllocError.{AllocError}
 use Rattle.teco_exec.specs.declared.place.Call.{Call}
 use Rattle.teco_exec.specs.declared.place.Place.{Place}
-use Rattle.teco_session.specs.declared.request.Answer.{Answer}
 use Rattle.teco_ffi.specs.Kinds.{register_name}
-use Rattle.teco_ffi.specs.Handle.{Kept}
-use Rattle.teco_ffi.specs.Places.{IsWhere, told_calls}
 use Rattle.teco_ffi.specs.declared.answers.TheConstants.{NOWHERE}
 use Rattle.teco_ffi.specs.declared.frames.OpenCall.{OpenCall}
 
@@ -30,9 +27,3 @@ place_within (Ok (Some p)) = p.at
 abbrev pub filled_calls : List OpenCall → List OpenCall → List OpenCall
 filled_calls room calls = take (min (length calls) (length room)) calls
     ++ drop (min (length calls) (length room)) room
-
--- They are told so of where the string stopped.
-abbrev pub TellsFrames : Kept → List ℕ → Answer → ℕ → ℕ → List OpenCall → List OpenCall → Type 0
-TellsFrames old text answer at calls before after = (place : Result (Option Place) AllocError)
-    × IsWhere old text answer place × (at ≡ place_within place) × (calls ≡ told_calls place)
-    × (after ≡ filled_calls before (open_calls place))

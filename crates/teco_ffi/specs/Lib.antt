@@ -10,3 +10,4 @@ pub mod Places
 pub mod Kinds
 pub mod Tokens
 pub mod Frames
+pub mod Runs

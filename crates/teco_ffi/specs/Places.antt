@@ -36,8 +36,3 @@ abbrev pub IsWhere : Kept → List ℕ → Answer → Result (Option Place) Allo
 IsWhere old text answer place = IfSome (outcome_of answer)
     (λ outcome. TellsPlace (present (history_of old)) text outcome place)
     × (is_unbegun answer ≡ true → place ≡ Ok None)
-
--- It is told by these two numbers.
-abbrev pub TellsWhere : Kept → List ℕ → Answer → ℕ → ℕ → Type 0
-TellsWhere old text answer at calls = (place : Result (Option Place) AllocError)
-    × IsWhere old text answer place × (at ≡ told_at (length text) place) × (calls ≡ told_calls place)

@@ -14,6 +14,7 @@ pub mod laws;
 pub mod parts;
 pub mod places;
 pub mod room;
+pub mod runs;
 pub mod stopper;
 pub mod token_kinds;
 pub mod tokens;

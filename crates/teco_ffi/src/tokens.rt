@@ -8,6 +8,18 @@ use crate::answers::NO_TOKEN;
 use crate::token_kinds::number_of_token;
 use teco_scan::{Found, Item, Span, TokenKind, filler_end, token_at};
 
+/// What is told of what stands at a place of a text.
+#[repr(C)]
+pub struct ToldToken {
+    /// The two ends of the token.
+    pub from: usize,
+    pub to: usize,
+    /// The number of its kind, or 0 where there is none.
+    pub kind: u8,
+    /// How many bytes its last text has.
+    pub size: usize,
+}
+
 /// How many bytes the last text of a token has.
 fn text_size(text: &[u8], kind: TokenKind) -> usize
     requires { IsKindIn (length text.now) kind }
@@ -23,33 +35,26 @@ fn text_size(text: &[u8], kind: TokenKind) -> usize
 }
 
 /// Tells what stands at a place of a text after fillers, as `teco_token` of the library for C does. Takes no memory.
-pub fn tell_token(
-    text: &[u8],
-    at: usize,
-    from: &mut usize,
-    to: &mut usize,
-    kind: &mut u8,
-    size: &mut usize,
-) -> u8
+pub fn tell_token(text: &[u8], at: usize, told: &mut ToldToken) -> u8
     ensures answer { result ≡ token_answer (scan (drop at text.now)) }
-    ensures from { drop from.new text.now ≡ after_fillers (drop at text.now) }
-    ensures to { drop to.new text.now ≡ after_token (scan (drop at text.now)) }
-    ensures kind { kind.new ≡ token_kind (scan (drop at text.now)) }
-    ensures size { size.new ≡ length (last_text (scan (drop at text.now))) }
-    ensures within { (from.new ≤ to.new) × (to.new ≤ length text.now) }
+    ensures from { drop told.new.from text.now ≡ after_fillers (drop at text.now) }
+    ensures to { drop told.new.to text.now ≡ after_token (scan (drop at text.now)) }
+    ensures kind { told.new.kind ≡ token_kind (scan (drop at text.now)) }
+    ensures size { told.new.size ≡ length (last_text (scan (drop at text.now))) }
+    ensures within { (told.new.from ≤ told.new.to) × (told.new.to ≤ length text.now) }
 {
     let at = at.min(text.len());
-    *from = filler_end(text, at);
-    *to = text.len();
-    *kind = 0;
-    *size = 0;
+    told.from = filler_end(text, at);
+    told.to = text.len();
+    told.kind = 0;
+    told.size = 0;
     match token_at(text, at) {
         Found::End => NO_TOKEN,
         Found::Fault(code) => code.number(),
         Found::Token(token) => {
-            *to = token.span.to;
-            *kind = number_of_token(token.kind);
-            *size = text_size(text, token.kind);
+            told.to = token.span.to;
+            told.kind = number_of_token(token.kind);
+            told.size = text_size(text, token.kind);
             0
         }
     }

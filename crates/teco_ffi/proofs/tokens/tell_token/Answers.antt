@@ -16,7 +16,7 @@ returns-in-End-clause-answer c =
 pub returns-in-End-clause-from : goal.returns-in-End-clause-from
 returns-in-End-clause-from c =
     let there = from_there c.args.text.now c.args.at c.min-at.result c.min-at.ensures in
-    c.filler_end.ensures.read ∙ ap after_fillers there
+    c.filler_end-told.ensures.read ∙ ap after_fillers there
 
 pub returns-in-End-clause-kind : goal.returns-in-End-clause-kind
 returns-in-End-clause-kind c =
@@ -36,7 +36,7 @@ returns-in-Fault-clause-answer c =
 pub returns-in-Fault-clause-from : goal.returns-in-Fault-clause-from
 returns-in-Fault-clause-from c =
     let there = from_there c.args.text.now c.args.at c.min-at.result c.min-at.ensures in
-    c.filler_end.ensures.read ∙ ap after_fillers there
+    c.filler_end-told.ensures.read ∙ ap after_fillers there
 
 pub returns-in-Fault-clause-kind : goal.returns-in-Fault-clause-kind
 returns-in-Fault-clause-kind c =
@@ -56,7 +56,7 @@ returns-in-Token-clause-answer c =
 pub returns-in-Token-clause-from : goal.returns-in-Token-clause-from
 returns-in-Token-clause-from c =
     let there = from_there c.args.text.now c.args.at c.min-at.result c.min-at.ensures in
-    c.filler_end.ensures.read ∙ ap after_fillers there
+    c.filler_end-told.ensures.read ∙ ap after_fillers there
 
 pub returns-in-Token-clause-to : goal.returns-in-Token-clause-to
 returns-in-Token-clause-to c =
@@ -66,19 +66,19 @@ returns-in-Token-clause-to c =
 pub returns-in-Token-clause-kind : goal.returns-in-Token-clause-kind
 returns-in-Token-clause-kind c =
     let there = from_there c.args.text.now c.args.at c.min-at.result c.min-at.ensures in
-    c.number_of_token.ensures _ ∙ ap token_kind (c.in-Token.ensures.read ∙ ap scan there)
+    c.number_of_token-told.ensures _ ∙ ap token_kind (c.in-Token.ensures.read ∙ ap scan there)
 
 pub returns-in-Token-clause-size : goal.returns-in-Token-clause-size
 returns-in-Token-clause-size c =
     let there = from_there c.args.text.now c.args.at c.min-at.result c.min-at.ensures in
-    c.text_size.ensures ∙ ap (λ (s : Scanned). length (last_text s)) (c.in-Token.ensures.read ∙ ap scan there)
+    c.text_size-told.ensures ∙ ap (λ (s : Scanned). length (last_text s)) (c.in-Token.ensures.read ∙ ap scan there)
 
 pub returns-in-Token-clause-within : goal.returns-in-Token-clause-within
 returns-in-Token-clause-within c =
     let text = c.args.text.now in
     let place = c.in-Token.ensures.place in
     let from = c.in-Token.token.span.from in
-    let passed = c.filler_end.result in
+    let passed = c.filler_end-told.result in
     let same : length text - passed ≡ length text - from =
-    sym (length-drop passed text) ∙ ap length (c.filler_end.ensures.read ∙ sym place.begins) ∙ length-drop from text in
-    (omega (arith, same, c.filler_end.ensures.within, place.long, place.inside), place.inside)
+    sym (length-drop passed text) ∙ ap length (c.filler_end-told.ensures.read ∙ sym place.begins) ∙ length-drop from text in
+    (omega (arith, same, c.filler_end-told.ensures.within, place.long, place.inside), place.inside)
