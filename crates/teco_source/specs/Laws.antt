@@ -5,6 +5,7 @@ use Rattle.teco_source.specs.declared.reader.Mode.TheVariants.{Text}
 use Rattle.teco_source.specs.Source.{is_blank, ends_line, start, run, commands_of}
 use Rattle.teco_source.specs.Places.{bytes_begun, places_of}
 use Rattle.teco_source.specs.Listing.{between}
+use Prim.Native.Char.{code}
 
 -- the bytes, if the source is read
 abbrev pub bytes_in : Result (List ℕ) ℕ → Option (List ℕ)
@@ -16,38 +17,38 @@ abbrev pub AreSame : List ℕ → List ℕ → Type 0
 AreSame one two = bytes_in (commands_of one) ≡ bytes_in (commands_of two)
 
 abbrev pub is_one_line : List ℕ → Bool
-is_one_line note = list_all (λ b. not (b == 10)) note
+is_one_line note = list_all (λ b. not (b == code "\n")) note
 
 -- A comment after a blank, up to the end of the line, is nothing.
 abbrev pub CommentsAreNothing : Type 0
 CommentsAreNothing = (front note back : List ℕ) (blank : ℕ) → is_blank blank ≡ true → is_one_line note ≡ true
-    → AreSame (front ++ (blank ∷ 33 ∷ 33 ∷ (note ++ 10 ∷ back))) (front ++ 10 ∷ back)
+    → AreSame (front ++ (blank ∷ code "!" ∷ code "!" ∷ (note ++ code "\n" ∷ back))) (front ++ code "\n" ∷ back)
 
 -- Neither is a line that is a comment.
 abbrev pub CommentLinesAreNothing : Type 0
 CommentLinesAreNothing = (front note back : List ℕ) → is_one_line note ≡ true
-    → AreSame (front ++ (10 ∷ 33 ∷ 33 ∷ (note ++ 10 ∷ back))) (front ++ 10 ∷ back)
+    → AreSame (front ++ (code "\n" ∷ code "!" ∷ code "!" ∷ (note ++ code "\n" ∷ back))) (front ++ code "\n" ∷ back)
 
 -- Blanks before the end of a line are nothing.
 abbrev pub BlanksBeforeAnEndAreNothing : Type 0
 BlanksBeforeAnEndAreNothing = (front blanks back : List ℕ) → list_all is_blank blanks ≡ true
-    → AreSame (front ++ (blanks ++ 10 ∷ back)) (front ++ 10 ∷ back)
+    → AreSame (front ++ (blanks ++ code "\n" ∷ back)) (front ++ code "\n" ∷ back)
 
 -- So is the margin of a line, if the text does not end with a line end there.
 abbrev pub MarginsAreNothing : Type 0
 MarginsAreNothing = (front blanks back text : List ℕ) → commands_of front ≡ Ok text → ends_line text ≡ false
-    → list_all is_blank blanks ≡ true → AreSame (front ++ 10 ∷ (blanks ++ back)) (front ++ 10 ∷ back)
+    → list_all is_blank blanks ≡ true → AreSame (front ++ code "\n" ∷ (blanks ++ back)) (front ++ code "\n" ∷ back)
 
 -- what is read alike within a line and at the beginning of one
 abbrev pub begins_alike : List ℕ → Bool
 begins_alike [] = true
 begins_alike (b ∷ []) = not (is_blank b)
-begins_alike (b ∷ c ∷ bs) = not (is_blank b) && not (b == 33 && c == 33)
+begins_alike (b ∷ c ∷ bs) = not (is_blank b) && not (b == code "!" && c == code "!")
 
 -- A line may be broken after a byte that is no blank, where neither a blank nor `!!` comes.
 abbrev pub BreaksAreNothing : Type 0
 BreaksAreNothing = (front back : List ℕ) → (run start front).mode ≡ Text → begins_alike back ≡ true
-    → AreSame (front ++ 10 ∷ back) (front ++ back)
+    → AreSame (front ++ code "\n" ∷ back) (front ++ back)
 
 -- Where a caret cannot be read, the bytes before it are read, and no more.
 abbrev pub PlacesAreFirst : Type 0

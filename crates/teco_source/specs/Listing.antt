@@ -1,9 +1,11 @@
 -- How a text is written in a source.
-use Rattle.std.specs.Prelude.{ℕ, ◌+◌, Bool, true, false, ◌&&◌, ◌||◌, List, [], ◌∷◌, ◌++◌, Option, Some, None, nat_lt, ◌==◌, if◌then◌else◌, map, replicate}
+use Rattle.std.specs.Prelude.{ℕ, ◌+◌, Bool, true, false, ◌&&◌, ◌||◌, List, [], ◌∷◌, ◌++◌, Option, Some, None, nat_lt, ◌==◌, if◌then◌else◌, map, replicate, codes}
 use Rattle.teco_source.specs.declared.reader.Mode.{Mode}
 use Rattle.teco_source.specs.declared.reader.Mode.TheVariants.{First, Margin, Blank, Text, Mark}
 use Rattle.teco_source.specs.declared.writer.Note.{Note}
 use Rattle.teco_source.specs.Source.{State, ends_line}
+use Prim.Native.Char.{code}
+use Rattle.teco_core.specs.declared.ascii.TheConstants.{ESC}
 
 abbrev pub is_mark : Mode → Bool
 is_mark Mark = true
@@ -11,8 +13,8 @@ is_mark _ = false
 
 -- what a reader would take for layout, or for the beginning of a comment
 abbrev pub is_guarded : Mode → ℕ → Bool
-is_guarded First b = b == 32 || b == 35
-is_guarded Margin b = b == 32
+is_guarded First b = b == code " " || b == code "#"
+is_guarded Margin b = b == code " "
 is_guarded _ b = false
 
 -- A byte, where a reader is in this mode: ESC is `$`, another control byte a caret and a letter, DEL `^?`, a dollar `^$`, a caret
@@ -20,13 +22,13 @@ is_guarded _ b = false
 -- reader would not take it for that.
 abbrev pub spelling : Mode → ℕ → List ℕ
 spelling mode b =
-    if b == 27 then 36 ∷ []
-    else (if nat_lt b 32 then 94 ∷ (b + 64) ∷ []
-    else (if b == 36 then 94 ∷ 36 ∷ []
-    else (if b == 94 then 94 ∷ 126 ∷ []
-    else (if b == 127 then 94 ∷ 63 ∷ []
-    else (if b == 33 && is_mark mode then 94 ∷ 33 ∷ []
-    else (if is_guarded mode b then 94 ∷ 46 ∷ b ∷ []
+    if b == ESC then codes "$"
+    else (if nat_lt b (code " ") then code "^" ∷ (b + 64) ∷ []
+    else (if b == code "$" then codes "^$"
+    else (if b == code "^" then codes "^~"
+    else (if b == code "\u{7f}" then codes "^?"
+    else (if b == code "!" && is_mark mode then codes "^!"
+    else (if is_guarded mode b then code "^" ∷ code "." ∷ b ∷ []
     else b ∷ []))))))
 
 abbrev pub mode_at_mark : Mode → Mode
@@ -36,11 +38,11 @@ mode_at_mark _ = Mark
 
 -- where a reader is after that byte
 abbrev pub mode_after : Mode → ℕ → Mode
-mode_after mode b = if b == 32 then Blank else (if b == 33 then mode_at_mark mode else Text)
+mode_after mode b = if b == code " " then Blank else (if b == code "!" then mode_at_mark mode else Text)
 
 -- `^.` keeps a blank at the end
 abbrev pub spelled_end : Mode → List ℕ
-spelled_end Blank = 94 ∷ 46 ∷ []
+spelled_end Blank = codes "^."
 spelled_end _ = []
 
 unfoldable pub spelled : Mode → List ℕ → List ℕ
@@ -48,7 +50,7 @@ spelled mode [] = spelled_end mode
 spelled mode (b ∷ bs) = spelling mode b ++ spelled (mode_after mode b) bs
 
 abbrev pub spaces : ℕ → List ℕ
-spaces n = replicate n 32
+spaces n = replicate n (code " ")
 
 -- a margin, where a reader takes it for one
 abbrev pub margin_of : Mode → ℕ → List ℕ
@@ -57,15 +59,15 @@ margin_of _ n = []
 
 -- A note is a comment after spaces, on one line.
 abbrev pub in_comment : ℕ → ℕ
-in_comment b = if b == 10 then 32 else b
+in_comment b = if b == code "\n" then code " " else b
 
 abbrev pub note_of : Option (ℕ × List ℕ) → List ℕ
-note_of (Some note) = 32 ∷ (spaces note.0 ++ 33 ∷ 33 ∷ map in_comment note.1)
+note_of (Some note) = code " " ∷ (spaces note.0 ++ code "!" ∷ code "!" ∷ map in_comment note.1)
 note_of None = []
 
 -- A line of a source that says some bytes more of a text.
 abbrev pub line_written : Mode → ℕ → List ℕ → Option (ℕ × List ℕ) → List ℕ
-line_written mode n bytes note = margin_of mode n ++ spelled mode bytes ++ note_of note ++ 10 ∷ []
+line_written mode n bytes note = margin_of mode n ++ spelled mode bytes ++ note_of note ++ codes "\n"
 
 abbrev pub note_in : Option Note → Option (ℕ × List ℕ)
 note_in (Some note) = Some (note.spaces, note.text.now)

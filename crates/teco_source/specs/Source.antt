@@ -1,7 +1,9 @@
 -- What a source stands for, read byte by byte.
-use Rattle.std.specs.Prelude.{ℕ, suc, ◌-◌, Bool, true, false, ◌&&◌, ◌||◌, List, [], ◌∷◌, ◌++◌, Option, Some, None, Result, Ok, Err, nat_le, ◌==◌, if◌then◌else◌}
+use Rattle.std.specs.Prelude.{ℕ, suc, ◌-◌, Bool, true, false, ◌&&◌, ◌||◌, List, [], ◌∷◌, ◌++◌, Option, Some, None, Result, Ok, Err, nat_le, ◌==◌, if◌then◌else◌, codes}
 use Rattle.teco_source.specs.declared.reader.Mode.{Mode}
 use Rattle.teco_source.specs.declared.reader.Mode.TheVariants.{First, Margin, Blank, Text, Hash, Mark, Caret, Comment, Wrong}
+use Prim.Native.Char.{code}
+use Rattle.teco_core.specs.declared.ascii.TheConstants.{ESC}
 
 -- What has been read: where in a line the reader is, the bytes so far, and the blanks after them, which are bytes too if the line
 -- goes on.
@@ -15,25 +17,25 @@ start = record { mode = First; bytes = []; blanks = [] }
 
 -- A blank is SP, TAB or CR.
 abbrev pub is_blank : ℕ → Bool
-is_blank b = b == 32 || b == 9 || b == 13
+is_blank b = b == code " " || b == code "\t" || b == code "\r"
 
 -- What a caret and a byte are: `^$` and `^!` a dollar and an exclamation mark, `^~` and `^=` a caret, `^?` DEL, `^.` nothing, and
--- a letter or one of `@[\]^_` a control byte. A caret stands before no other byte.
+-- a letter or one of `@[\]^_` a control byte, which is 64 below the capital. A caret stands before no other byte.
 abbrev pub marked : ℕ → Option (List ℕ)
 marked b =
-    if b == 36 || b == 33 then Some (b ∷ [])
-    else (if b == 126 || b == 61 then Some (94 ∷ []) else (if b == 63 then Some (127 ∷ [])
-    else (if b == 46 then Some [] else (if nat_le 64 b && nat_le b 95 then Some ((b - 64) ∷ [])
-    else (if nat_le 97 b && nat_le b 122 then Some ((b - 96) ∷ []) else None)))))
+    if b == code "$" || b == code "!" then Some (b ∷ [])
+    else (if b == code "~" || b == code "=" then Some (codes "^") else (if b == code "?" then Some (codes "\u{7f}")
+    else (if b == code "." then Some [] else (if nat_le (code "@") b && nat_le b (code "_") then Some ((b - 64) ∷ [])
+    else (if nat_le (code "a") b && nat_le b (code "z") then Some ((b - 96) ∷ []) else None)))))
 
 -- Any other byte is itself, but `$` is ESC.
 abbrev pub meant : ℕ → ℕ
-meant b = if b == 36 then 27 else b
+meant b = if b == code "$" then ESC else b
 
 -- the last byte is a line end
 unfoldable pub ends_line : List ℕ → Bool
 ends_line [] = false
-ends_line (b ∷ []) = b == 10
+ends_line (b ∷ []) = b == code "\n"
 ends_line (b ∷ c ∷ bs) = ends_line (c ∷ bs)
 
 -- bytes more, with the blanks before them
@@ -56,14 +58,14 @@ blank_in _ s b = record s { mode = Blank; blanks = s.blanks ++ b ∷ [] }
 
 -- At the beginning of a line or after a blank an exclamation mark may begin a comment.
 abbrev pub mark_in : Mode → State → State
-mark_in Text s = put (33 ∷ []) s
+mark_in Text s = put (codes "!") s
 mark_in _ s = record s { mode = Mark }
 
 abbrev pub plain : State → ℕ → State
 plain s b =
-    if b == 10 then next_line s
-    else (if b == 94 then record s { mode = Caret }
-    else (if b == 33 then mark_in s.mode s
+    if b == code "\n" then next_line s
+    else (if b == code "^" then record s { mode = Caret }
+    else (if b == code "!" then mark_in s.mode s
     else (if is_blank b then blank_in s.mode s b else put (meant b ∷ []) s)))
 
 abbrev pub put_marked : Option (List ℕ) → State → State
@@ -72,15 +74,15 @@ put_marked None s = record s { mode = Wrong }
 
 -- A byte after a mark, which begin a comment if the byte is an exclamation mark.
 abbrev pub begins_comment : ℕ → State → ℕ → State
-begins_comment c s b = if b == 33 then record s { mode = Comment } else plain (put (c ∷ []) s) b
+begins_comment c s b = if b == code "!" then record s { mode = Comment } else plain (put (c ∷ []) s) b
 
 -- One byte more. `!!`, and `#!` at the beginning of the source, begin a comment, which goes to the end of the line.
 abbrev pub step_in : Mode → State → ℕ → State
-step_in First s b = if b == 35 then record s { mode = Hash } else plain s b
-step_in Hash s b = begins_comment 35 s b
-step_in Mark s b = begins_comment 33 s b
+step_in First s b = if b == code "#" then record s { mode = Hash } else plain s b
+step_in Hash s b = begins_comment (code "#") s b
+step_in Mark s b = begins_comment (code "!") s b
 step_in Caret s b = put_marked (marked b) s
-step_in Comment s b = if b == 10 then next_line s else s
+step_in Comment s b = if b == code "\n" then next_line s else s
 step_in Wrong s b = s
 step_in _ s b = plain s b
 
@@ -93,8 +95,8 @@ run s (b ∷ bs) = run (step s b) bs
 
 -- The end of a source, after so many bytes. A mark is itself there, and a caret cannot be read.
 abbrev pub ended_in : Mode → State → ℕ → Result (List ℕ) ℕ
-ended_in Hash s at = Ok (s.bytes ++ s.blanks ++ 35 ∷ [])
-ended_in Mark s at = Ok (s.bytes ++ s.blanks ++ 33 ∷ [])
+ended_in Hash s at = Ok (s.bytes ++ s.blanks ++ codes "#")
+ended_in Mark s at = Ok (s.bytes ++ s.blanks ++ codes "!")
 ended_in Caret s at = Err (at - 1)
 ended_in Wrong s at = Err (at - 1)
 ended_in _ s at = Ok s.bytes
