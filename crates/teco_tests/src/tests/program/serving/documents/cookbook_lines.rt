@@ -31,8 +31,6 @@ pub(super) const EXAMPLES: &str = "
     Y<Sbegin\n$;<.-Z;::Send\n$\"L0;'I> $L>>EX$$ => => a\nbegin\n> b\n> c\nend\nd\nbegin\n> e\n => a\nbegin\nb\nc\nend\nd\nbegin\ne\n => exit
     // Without empty lines?
     Y<.-Z;0A-10\"ED|L'>EX$$ => => one\ntwo\n => one\n\n\ntwo\n => exit
-    // Without the first byte of each line?
-    Y<.-Z;0A-10\"ND'L>EX$$ => => ne\n\nwo\n => one\n\ntwo\n => exit
     // Without the last byte of each line?
     Y<.-Z;.UBL-A-10\"ER'.-QB\"G-D'L>EX$$ => => one\n\ntwo\n => one;\n\ntwo;\n => exit
     // Without the first three lines, or the last one?
