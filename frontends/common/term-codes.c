@@ -1,4 +1,4 @@
-/* The codes by which strings end, by their numbers, with the sentences of docs/MANUAL.md. */
+/* The codes by which strings end, by their numbers, with the sentences that docs/MANUAL.md gives them. Four say what it is at a terminal. */
 #include "terminal.h"
 #include <stdio.h>
 
@@ -6,40 +6,40 @@ static const struct code {
     const char *letters, *sentence;
 } CODES[] = {
     {"???", "an answer that has no sentence"},
-    {"ARG", "a wrong argument, or wrong arithmetic"},
+    {"ARG", "wrong argument, or wrong arithmetic"},
     {"BNI", "> without its iteration"},
-    {"CPQ", "nothing is pushed"},
-    {"DTB", "a deletion past an end of the text"},
-    {"ICE", "a search text that isn't allowed"},
-    {"IIA", "an insertion with both a number and a text; a TAB with a number"},
+    {"CPQ", "nothing on the push-down list"},
+    {"DTB", "delete past the buffer"},
+    {"ICE", "search text not allowed"},
+    {"IIA", "insert with argument and text"},
     {"ILL", "no such command"},
-    {"IPA", "a number of pages that is not above 0"},
+    {"IPA", "P with a number of at most 0"},
     {"IQC", "no such test"},
     {"IQN", "no such register"},
-    {"ISA", "a search for 0 occurrences; N or _ with n not above 0"},
-    {"ISS", "an empty search text, and none before it"},
-    {"MRP", "a parenthesis is open at a command"},
-    {"NAE", "no number before = or =="},
-    {"NAQ", "no number before \""},
+    {"ISA", "search count not allowed"},
+    {"ISS", "no search text yet"},
+    {"MRP", "parenthesis open at a command"},
+    {"NAE", "no number before ="},
+    {"NAQ", "no number before a test"},
     {"NAU", "no number before U"},
-    {"OVF", "a number out of range"},
-    {"DVZ", "a division by zero"},
-    {"PDO", "the 65th open block of a text, the 33rd open call, the 17th open parenthesis, or a 65th value pushed"},
-    {"POP", "a place outside the text"},
+    {"OVF", "number out of range"},
+    {"DVZ", "division by zero"},
+    {"PDO", "too many open or pushed"},
+    {"POP", "place outside the buffer"},
     {"SNI", "; without an iteration"},
-    {"SRH", "a search failed"},
-    {"TAG", "no such tag to jump to"},
-    {"UTC", "the string ends inside a command"},
-    {"YCA", "a page would replace a text in the buffer"},
-    {"BIG", "a text past 16,777,216 bytes, or an output past 1,073,741,824"},
-    {"LIM", "the limit of steps"},
-    {"MEM", "memory was refused"},
+    {"SRH", "search failed"},
+    {"TAG", "no such tag to go to"},
+    {"UTC", "text ends inside a command or block"},
+    {"YCA", "page would replace a nonempty buffer"},
+    {"BIG", "a text or the output past its limit"},
+    {"LIM", "step limit"},
+    {"MEM", "memory refused"},
     {"TTY", "more is typed than there is room for"},
     {"NTU", "nothing is left to undo"},
     {"NTR", "nothing is left to redo"},
     {"END", "an exit has ended the session"},
 };
-static const struct code NOT_BEGUN = {"MEM", "memory was refused: the string was not begun, and nothing has changed"};
+static const struct code NOT_BEGUN = {"MEM", "memory refused: the string was not begun, and nothing has changed"};
 
 static const struct code *code_of(uint8_t number)
 {
