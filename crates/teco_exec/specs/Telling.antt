@@ -1,7 +1,7 @@
 -- A place as it is told, and when it is.
 use Rattle.std.specs.Prelude.{◌≡◌, ◌↔◌, ℕ, List, Option, None, Result, Ok, IfOk, IfSome, map}
 use Rattle.std.specs.declared.alloc.AllocError.{AllocError}
-use Rattle.teco_scan.specs.Breaks.{IsFirstFault}
+use Rattle.teco_scan.specs.Breaks.{first_break}
 use Rattle.teco_store.specs.State.{State}
 use Rattle.teco_exec.specs.Places.{CallToken, IsPlaceAfter, Told}
 use Rattle.teco_exec.specs.declared.outcome.Outcome.{Outcome}
@@ -21,7 +21,7 @@ told_of text p =
 pub record IsLastPlace (s : State) (text : List ℕ) (k : ℕ) (p : Place) : Type 0 where
   pub innermost : List ℕ
   pub stood : IsPlaceAfter s text k (told_of innermost p)
-  pub fault : IsFirstFault innermost p.fault
+  pub fault : p.fault ≡ first_break innermost
 
 -- Of a string that was run from a state and ended so, this is told: the last place at which its run stood,
 -- exactly where it ended by a code; or else memory lacked for the place.

@@ -1,6 +1,6 @@
 -- What the watch that keeps the place knows.
 use Rattle.std.specs.Prelude.{◌≡◌, true, false, [], Option, Some, None}
-use Rattle.teco_scan.specs.Breaks.{IsFirstFault}
+use Rattle.teco_scan.specs.Breaks.{first_break}
 use Rattle.teco_exec.specs.Places.{Told}
 use Rattle.teco_exec.specs.Telling.{told_of}
 use Rattle.teco_exec.specs.declared.place.Place.{Place}
@@ -9,7 +9,7 @@ use Rattle.teco_exec.specs.declared.watch.Watched.{Watched}
 -- A place is kept as it was told, with the first fault of the text there.
 pub record KeepsPlace (place : Place) (p : Told) : Type 0 where
   pub told : told_of p.text place ≡ p
-  pub fault : IsFirstFault p.text place.fault
+  pub fault : place.fault ≡ first_break p.text
 
 -- It keeps nothing; or what it has been told, where no memory lacked.
 abbrev pub Knows : Watched → Option Told → Type 0

@@ -23,9 +23,12 @@ pub mod Passing
 pub mod ListFaults
 pub mod TokensNest
 pub mod Breaking
-pub mod BreaksIsBroken
 pub mod TreeRows
 pub mod FirstPlaces
 pub mod Streams
 pub mod StreamCounts
 mod StreamRows
+pub mod WalkUnrolls
+pub mod WalkMeets
+pub mod BreakRules
+pub mod WalkWhole

@@ -11,6 +11,7 @@ pub mod Skip
 pub mod Lists
 pub mod Nesting
 pub mod ListLaws
+pub mod Walk
 pub mod Breaks
 pub mod Gathered
 pub mod GatheredLists

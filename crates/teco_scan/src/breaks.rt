@@ -1,10 +1,10 @@
 //! Where a list of a text breaks.
 ghost use Rattle.std.specs.Prelude.{◌≡◌, ◌≢◌, ◌+◌, ◌<◌, ◌≤◌, ℕ, true, false, List, length, drop, IfSome, Option, Some, None, Err, is_none};
 ghost use Rattle.teco_core.specs.declared.limits.TheConstants.{BLOCK_LIMIT};
-ghost use Rattle.teco_scan.specs.Breaks.{Breaks, IsFirstFault, IsTokenPlace, fault_at, inside_list, opening};
+ghost use Rattle.teco_scan.specs.Breaks.{Breaks, IsTokenPlace, fault_at, first_break, inside_list, opening};
 ghost use Rattle.teco_scan.specs.Scan.{Instruction, TokenMeaning, ended, found, scan};
 ghost use Rattle.teco_scan.specs.Skip.{closing_mark, opened_kind};
-ghost use Rattle.teco_scan.specs.Lists.{at_instruction, at_mark, broken, list_at};
+ghost use Rattle.teco_scan.specs.Lists.{at_instruction, at_mark, broken, list_at, nodes};
 ghost use Rattle.teco_scan.specs.Nesting.{is_whole};
 ghost use Rattle.teco_scan.specs.declared.command.Modifiers.{Modifiers};
 
@@ -14,13 +14,13 @@ use teco_core::{BLOCK_LIMIT, Code};
 
 /// A list of a text: the commands in a block, or the text's own.
 #[derive(Clone, Copy)]
-pub struct OpenList {
+struct ListAt {
     /// The kind of the block; none: the list is the text's own.
-    pub kind: Option<Kind>,
+    kind: Option<Kind>,
     /// Where the list begins.
-    pub start: usize,
+    start: usize,
     /// How many blocks are open in it, its own too.
-    pub depth: usize,
+    depth: usize,
 }
 
 /// A fault of a text: what breaks one of its lists.
@@ -57,7 +57,7 @@ fn fault_at(at: usize, code: Code) -> ListFault
 }
 
 /// The end of the text breaks the list of a block, and not the text's own.
-fn end_of_text(list: OpenList, end: usize) -> Option<ListFault>
+fn end_of_text(list: ListAt, end: usize) -> Option<ListFault>
     ensures breaks { (text : List ℕ) (at : ℕ) → scan (drop at text) ≡ ended → length text ≡ end
         → IfSome result (λ fault. Breaks text list at fault) }
     ensures none { is_none result ≡ is_none list.kind }
@@ -91,7 +91,7 @@ fn stray_code(kind: Option<Kind>, mark: BlockMark) -> Option<Code>
 }
 
 /// What a mark that ends or divides a block is to this list, where it stands at this place: a fault, or it closes the list.
-fn end_of_list(list: OpenList, mark: BlockMark, from: usize) -> Option<ListFault>
+fn end_of_list(list: ListAt, mark: BlockMark, from: usize) -> Option<ListFault>
     requires { mark ≢ BlockMark.Iterate }
     ensures breaks { (text more : List ℕ) (at : ℕ) (token : TokenMeaning) → IsTokenPlace text at from
         → scan (drop at text) ≡ found token more → closing_mark token.instruction ≡ Some mark
@@ -106,11 +106,11 @@ fn end_of_list(list: OpenList, mark: BlockMark, from: usize) -> Option<ListFault
 }
 
 /// The list of a part of a block that opens in another list, and begins at this place.
-fn inside_list(list: OpenList, kind: Kind, start: usize) -> OpenList
+fn inside_list(list: ListAt, kind: Kind, start: usize) -> ListAt
     requires { list.depth < BLOCK_LIMIT }
     ensures { result ≡ inside_list list kind start }
 {
-    OpenList {
+    ListAt {
         kind: Some(kind),
         start,
         depth: list.depth + 1,
@@ -119,7 +119,7 @@ fn inside_list(list: OpenList, kind: Kind, start: usize) -> OpenList
 
 /// Where to go on at a block that opens in a list and begins at a place: in the same list after the whole block or, where that can't be
 /// passed, in the part of it that breaks.
-fn past_block(text: &[u8], list: OpenList, kind: Kind, start: usize) -> (OpenList, usize)
+fn past_block(text: &[u8], list: ListAt, kind: Kind, start: usize) -> (ListAt, usize)
     requires inside { start ≤ length text.now }
     requires few { list.depth < BLOCK_LIMIT }
     ensures few { result.0.depth ≤ BLOCK_LIMIT }
@@ -143,7 +143,7 @@ fn past_block(text: &[u8], list: OpenList, kind: Kind, start: usize) -> (OpenLis
 
 /// Where a list of a text first breaks, from a place in it on. There is none where it closes, or where the text's own list goes on to
 /// the end of the text.
-fn first_fault_from(text: &[u8], list: OpenList, at: usize) -> Option<ListFault>
+fn first_fault_from(text: &[u8], list: ListAt, at: usize) -> Option<ListFault>
     requires inside { at ≤ length text.now }
     requires few { list.depth ≤ BLOCK_LIMIT }
     ensures breaks { IfSome result (λ fault. Breaks text.now list at fault) }
@@ -173,9 +173,10 @@ fn first_fault_from(text: &[u8], list: OpenList, at: usize) -> Option<ListFault>
 ///
 /// It takes no memory. What comes before the fault in a block is passed once for each block around it.
 pub fn first_fault(text: &[u8]) -> Option<ListFault>
-    ensures { IsFirstFault text.now result }
+    ensures first { result ≡ first_break text.now }
+    ensures whole { is_whole (nodes text.now) ≡ is_none result }
 {
-    let whole = OpenList {
+    let whole = ListAt {
         kind: None,
         start: 0,
         depth: 0,
@@ -183,11 +184,11 @@ pub fn first_fault(text: &[u8]) -> Option<ListFault>
     first_fault_from(text, whole, 0)
 }
 
-/// The laws of faults, as clauses: where a list breaks, it is broken by that code, and the place lies in the text. The call does
-/// nothing.
+/// The laws of the first fault, as clauses: there is none exactly if the nodes of the text are whole; by its code the text's own list is
+/// broken; and its place lies in the text. The call does nothing.
 pub fn break_laws()
-    ensures broken { (text : List ℕ) (list : OpenList) (at : ℕ) (fault : ListFault) → Breaks text list at fault
-        → (list_at list.kind list.depth (drop at text)).1 ≡ broken fault.code }
-    ensures within { (text : List ℕ) (list : OpenList) (at : ℕ) (fault : ListFault) → Breaks text list at fault
-        → fault.at ≤ length text }
+    ensures whole { (text : List ℕ) → is_whole (nodes text) ≡ is_none (first_break text) }
+    ensures broken { (text : List ℕ) (fault : ListFault) → first_break text ≡ Some fault
+        → (list_at None 0 text).1 ≡ broken fault.code }
+    ensures within { (text : List ℕ) (fault : ListFault) → first_break text ≡ Some fault → fault.at ≤ length text }
 {}

@@ -16,7 +16,7 @@ mod token;
 pub use blocks::{
     Kind, SkipEnd, block_laws, closing_mark, find_tag, nesting, skip_block, skip_whole_block,
 };
-pub use breaks::{ListFault, OpenList, break_laws, first_fault};
+pub use breaks::{ListFault, break_laws, first_fault};
 pub use command::{
     Arithmetic, Bare, BlockMark, Command, Form, LevelCommand, Modifiers, Name, Quantity,
     RegisterCommand, Row, Test, TextCommand,

@@ -1,6 +1,7 @@
 use Rattle.std.proofs.Common.{sym, subst}
 use Rattle.teco_scan.specs.declared.breaks.ListFault.{ListFault}
-use Rattle.teco_scan.specs.Breaks.{Breaks, stray_mark}
+use Rattle.teco_scan.specs.Breaks.{Breaks}
+use Rattle.teco_scan.proofs.BreakRules.{stray_mark}
 use Rattle.teco_scan.proofs.breaks.end_of_list.Goals as goal
 
 pub returns-in-Some-clause-breaks : goal.returns-in-Some-clause-breaks

@@ -1,6 +1,7 @@
 use Rattle.std.proofs.Common.{ℕ, Some, sym, subst}
 use Rattle.teco_core.specs.declared.code.Code.TheVariants.{Utc}
-use Rattle.teco_scan.specs.Breaks.{Breaks, ends_inside, opening}
+use Rattle.teco_scan.specs.Breaks.{Breaks, opening}
+use Rattle.teco_scan.proofs.BreakRules.{ends_inside}
 use Rattle.teco_scan.proofs.breaks.end_of_text.Goals as goal
 
 pub returns-in-Some-clause-breaks : goal.returns-in-Some-clause-breaks

@@ -1,7 +1,8 @@
 use Rattle.std.proofs.Common.{ℕ, List, drop, sym, ap, ◌∙◌, subst, arith}
 use Rattle.teco_scan.specs.declared.breaks.ListFault.{ListFault}
 use Rattle.teco_scan.specs.declared.token.Token.{Token}
-use Rattle.teco_scan.specs.Breaks.{Breaks, IsTokenPlace, no_token, too_deep, after_token}
+use Rattle.teco_scan.specs.Breaks.{Breaks, IsTokenPlace}
+use Rattle.teco_scan.proofs.BreakRules.{no_token, too_deep, after_token}
 use Rattle.teco_scan.specs.Lists.{at_instruction, list_at}
 use Rattle.teco_scan.specs.Nesting.{is_whole}
 use Rattle.teco_scan.specs.Scan.{Instruction, ended, fault, found}
@@ -51,7 +52,7 @@ loop-code-preserved-in-None-opened_kind c =
     record {
       inside = c.in-Token.ensures.place.inside;
       few = c.loop-code.invariant.few;
-      comes = λ there b. c.loop-code.invariant.comes there (after_token (sym c.in-Token.ensures.read) c.in-Token.ensures.place.inside opens closes b);
+      comes = λ there b. c.loop-code.invariant.comes there (after_token (sym c.in-Token.ensures.read) opens closes b);
       whole = sym (token_whole t.modifiers more list.kind list.depth (instruction_in text t.kind) opens closes)
           ∙ sym (found_whole list.kind list.depth _ (found (meaning_in text t) more) c.in-Token.ensures.read) ∙ c.loop-code.invariant.whole;
     }

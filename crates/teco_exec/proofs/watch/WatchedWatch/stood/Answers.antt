@@ -11,7 +11,7 @@ returns-in-Ok c known =
       record { rest = c.filler_end-self.ensures.read; within = c.filler_end-self.ensures.within.1 },
       (
         refl,
-        λ memory. record { told = kept_here c.args.steps at.text.now c.filler_end-self.result c.in-Ok.turns.items (cursor at).blocks c.args.self.now.place.calls.items (c.in-Ok.ensures ∙ sym (turns_same at.text.now at.blocks)) known.2; fault = c.first_fault-self.ensures },
+        λ memory. record { told = kept_here c.args.steps at.text.now c.filler_end-self.result c.in-Ok.turns.items (cursor at).blocks c.args.self.now.place.calls.items (c.in-Ok.ensures ∙ sym (turns_same at.text.now at.blocks)) known.2; fault = c.first_fault-self.ensures.first },
       ),
     )
 
