@@ -17,7 +17,8 @@ use Rattle.teco_scan.specs.Seen.{IsTokenAt, IsSpanIn, IsKindIn, item_in, meaning
 use Rattle.teco_scan.specs.Spelling.{Spells, run_spelled, command_spelled, SpellsOperand, bare_spelled, mark_spelled, escape_spelled, register_spelled, byte_spelled, test_spelled, text_spelled, tag_spelled, set_text_spelled, replace_spelled, IsSpelled}
 use Rattle.teco_check.specs.Checked.{inner_length, held, may_hold}
 use Rattle.teco_check.specs.Clean.{is_fine, clean_within}
-use Rattle.teco_check.specs.Walk.{OpenList, wrong_with, rule}
+use Rattle.teco_scan.specs.Walk.{OpenList}
+use Rattle.teco_check.specs.Walk.{wrong_with, rule}
 use Rattle.teco_check.specs.declared.faults.Wrong.TheVariants as wrongs
 use Rattle.teco_scan.specs.Tree.{Nodes}
 use Rattle.std.specs.Prelude.{not, ◌||◌, if◌then◌else◌}

@@ -2,7 +2,6 @@
 use Rattle.std.proofs.Common.{◌≡◌, ℕ, ◌≤◌, Bool, true, false, List, [], ◌∷◌, length, length-drop, drop, cond as choose, refl, sym, ap, ◌∙◌, arith}
 use Rattle.teco_core.specs.Ascii.{is_filler}
 use Rattle.teco_scan.specs.Scan.{scan, scan_here, after_fillers}
-use Rattle.teco_check.specs.Walk.{place}
 
 -- after fillers there are none
 pub none_more : (bs : List ℕ) → after_fillers (after_fillers bs) ≡ after_fillers bs
@@ -17,7 +16,3 @@ none_more (b ∷ bs) = cases (is_filler b) refl (none_more bs)
 pub scan_same : (bs more : List ℕ) → more ≡ after_fillers bs → scan more ≡ scan bs
 unfolding scan
 scan_same bs more e = ap scan_here (ap after_fillers e ∙ none_more bs)
-
--- a place is that of the bytes from there
-pub place_is : (bytes more : List ℕ) (at : ℕ) → at ≤ length bytes → drop at bytes ≡ more → place bytes more ≡ at
-place_is bytes more at h e = ap (place bytes) (sym e) ∙ omega (arith, length-drop at bytes, h)

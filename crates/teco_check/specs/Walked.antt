@@ -5,7 +5,8 @@ use Rattle.teco_scan.specs.declared.blocks.Kind.TheVariants.{Iter, Then, Else}
 use Rattle.teco_scan.specs.declared.blocks.SkipEnd.{SkipEnd}
 use Rattle.teco_check.specs.declared.faults.Fault.{Fault}
 use Rattle.teco_check.specs.Checked.{lands_below}
-use Rattle.teco_check.specs.Walk.{CodeRule, OpenList, lands_in, out_of, walk}
+use Rattle.teco_scan.specs.Walk.{OpenList, out_of}
+use Rattle.teco_check.specs.Walk.{CodeRule, lands_in, walk}
 
 -- The lists begin at these places, as far as a jump can tell.
 abbrev pub BeginThere : List ℕ → List ℕ → List OpenList → Type 0

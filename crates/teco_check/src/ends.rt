@@ -7,8 +7,9 @@ ghost use Rattle.teco_scan.specs.Closes.{close_of};
 ghost use Rattle.teco_scan.specs.Lists.{at_mark, at_scan, broken, list_at};
 ghost use Rattle.teco_check.specs.Clean.{is_clean};
 ghost use Rattle.teco_check.specs.Checked.{is_stray, code_of};
-ghost use Rattle.teco_check.specs.Walk.{CodeRule, OpenList, opened_at, at_end, walk};
-ghost use Rattle.teco_check.specs.Walk as walked;
+ghost use Rattle.teco_scan.specs.Walk.{OpenList, at_end};
+ghost use Rattle.teco_scan.specs.Walk as walked;
+ghost use Rattle.teco_check.specs.Walk.{CodeRule, by_check, opened_at, walk};
 ghost use Rattle.teco_check.specs.Walked.{after_list};
 
 use crate::faults::{Fault, Wrong};
@@ -40,7 +41,7 @@ pub fn end_of_list(
     ensures closes { (text : List ℕ) (d : ℕ)
         → IfOk result (λ stop. (at_mark list_at mark (drop to text) kind d).1 ≡ close_of text (Ok stop)) }
     ensures first { (code : CodeRule) (text : List ℕ) (start : ℕ) (os : List OpenList) → to ≤ length text
-        → walked.at_mark (walk code text) text mark kind from (record { kind = kind; opening = opening; start = start }) os (drop to text)
+        → walked.at_mark (by_check code text) (walk code text) text mark kind from (record { kind = kind; opening = opening; start = start }) os (drop to text)
         ≡ after_list code text kind opening os result }
     ensures place { IfOk result (λ stop. stop.to ≡ to) }
     ensures stray { IfErr result (λ fault. (fault.at ≡ from) × (is_stray fault.wrong ≡ true)) }
@@ -70,7 +71,9 @@ pub fn end_of_list(
 pub fn end_of_text(kind: Option<Kind>, opening: usize, to: usize) -> Result<SkipEnd, Fault>
     ensures clean { (d : ℕ) (code : ℕ → Bool) (may : List ℕ → Bool) (lists : List Nodes)
         → is_clean code may lists (at_scan list_at ended kind d).0 ≡ is_ok result }
-    ensures first { (code : CodeRule) (text : List ℕ) (os : List OpenList) → at_end kind opening ≡ after_list code text kind opening os result }
+    ensures first { (code : CodeRule) (text : List ℕ) (at start : ℕ) (os : List OpenList)
+        → at_end (by_check code text) kind at (record { kind = kind; opening = opening; start = start })
+        ≡ after_list code text kind opening os result }
     ensures text { is_ok result ≡ true → kind ≡ None }
     ensures place { IfOk result (λ stop. stop.to ≡ to) }
     ensures unended { IfErr result (λ fault. (fault.at ≡ opening) × (fault.wrong ≡ Wrong.Unended)) }

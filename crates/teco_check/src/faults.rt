@@ -12,8 +12,9 @@ ghost use Rattle.teco_scan.specs.declared.command.Modifiers.{Modifiers};
 ghost use Rattle.teco_scan.specs.declared.command.Test.{Test};
 ghost use Rattle.std.specs.Prelude.{Ok};
 ghost use Rattle.teco_check.specs.Clean.{is_fine, is_clean, clean_within};
-ghost use Rattle.teco_check.specs.Walk.{CodeRule, OpenList, rule, first_within, wrong_with, at_end, walk};
-ghost use Rattle.teco_check.specs.Walk as walked;
+ghost use Rattle.teco_scan.specs.Walk.{OpenList};
+ghost use Rattle.teco_scan.specs.Walk as walked;
+ghost use Rattle.teco_check.specs.Walk.{by_check, first_within, rule, told_item, walk, wrong_with};
 ghost use Rattle.teco_check.specs.Walked.{BeginThere, after_node, after_list};
 ghost use Rattle.teco_check.specs.Checked.{item_holds, item_length, inner_length, held, may_hold, lands_below, AreInside, AreOpen, IsFaultHere, is_stray, suits, code_of, rest_clean};
 
@@ -158,7 +159,7 @@ fn check_item(
         → is_fine (held look.entry.code.now) (may_hold look.entry.texts look.entry.code.now) lists (item_in text.now item) ≡ is_ok result }
     ensures place { IfOk result (λ x. x ≡ to) }
     ensures first { (o : OpenList) (os : List OpenList) → suc (length os) ≡ count → BeginThere text.now starts.now (o ∷ os)
-        → walked.after_item (walk (rule look.entry.texts look.entry.code.now) text.now) from (wrong_with (rule look.entry.texts look.entry.code.now) text.now (o ∷ os) (item_in text.now item)) o os (drop to text.now)
+        → walked.after_item (walk (rule look.entry.texts look.entry.code.now) text.now) (told_item from (wrong_with (rule look.entry.texts look.entry.code.now) text.now (o ∷ os) (item_in text.now item))) o os (drop to text.now)
         ≡ after_node (rule look.entry.texts look.entry.code.now) text.now o os result }
     ensures suits { IfErr result (λ fault. (fault.at ≡ from) × (suits fault.wrong (step (item_in text.now item)) ≡ true)) }
     ensures code { IfErr result (λ fault. code_of fault.wrong ≡ None) }
@@ -235,7 +236,7 @@ fn check_node(
         → is_clean (held look.entry.code.now) (may_hold look.entry.texts look.entry.code.now) lists (at_instruction list_at (instruction_in text.now token.kind) m (drop token.span.to text.now) k depth).0
         ≡ rest_clean (held look.entry.code.now) (may_hold look.entry.texts look.entry.code.now) lists text.now k depth result }
     ensures first { (o : OpenList) (os : List OpenList) → length os ≡ depth → BeginThere text.now starts.now (o ∷ os)
-        → walked.at_instruction (rule look.entry.texts look.entry.code.now) (walk (rule look.entry.texts look.entry.code.now) text.now) text.now (instruction_in text.now token.kind) token.span.from o os (drop token.span.to text.now)
+        → walked.at_instruction (by_check (rule look.entry.texts look.entry.code.now) text.now) (walk (rule look.entry.texts look.entry.code.now) text.now) text.now (instruction_in text.now token.kind) token.span.from o os (drop token.span.to text.now)
         ≡ after_node (rule look.entry.texts look.entry.code.now) text.now o os result }
     ensures closes { (m : Modifiers) (k : Option Kind)
         → IfOk result (λ to. (at_instruction list_at (instruction_in text.now token.kind) m (drop token.span.to text.now) k depth).1

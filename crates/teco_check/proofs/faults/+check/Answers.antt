@@ -13,11 +13,13 @@ use Rattle.teco_check.specs.Clean.{is_fine, is_clean}
 use Rattle.teco_check.specs.declared.faults.Fault.{Fault}
 use Rattle.teco_check.specs.Checked.{item_holds, lands_below, held, may_hold, rest_clean, suits, code_of}
 use Rattle.teco_check.proofs.Open.{opens, text_clean}
-use Rattle.teco_check.proofs.Places.{scan_same, place_is}
+use Rattle.teco_check.proofs.Places.{scan_same}
+use Rattle.teco_scan.proofs.WalkUnrolls.{place_is}
 use Rattle.teco_check.proofs.Inner.{token_long, a_text, fine_text, wrong_text, text_may, none_may}
 use Rattle.teco_check.proofs.Unrolls.{scanned_at, begins_more, block_opens, one_more}
-use Rattle.teco_check.specs.Walk.{OpenList, lands_in, rule, walk}
-use Rattle.teco_check.specs.Walk as walked
+use Rattle.teco_scan.specs.Walk.{OpenList}
+use Rattle.teco_scan.specs.Walk as walked
+use Rattle.teco_check.specs.Walk.{by_check, lands_in, rule, walk}
 use Rattle.teco_scan.specs.Scan.{after_fillers}
 use Rattle.teco_check.proofs.Here.{fault_here, stray_here}
 use Rattle.teco_check.proofs.Walked.{found_at, iter_faulty, iter_clean, cond_faulty, cond_clean, other_faulty, other_clean, iter_breaks, cond_breaks, other_breaks, iterate_deep, decide_deep, tag_clean, escape_clean, iterate_at, decide_at, wrong_unclean, deeper, closes_deeper, is_iterate, closing_is, item_rest}
@@ -264,8 +266,8 @@ check_list-returns-in-End-clause-first t c os long there =
     let me : OpenList = record { kind = c.args.kind; opening = c.args.opening; start = c.args.at } in
     let bs = drop c.loop-code.next text in
     sym (c.loop-code.invariant.first os long there)
-    ∙ scanned_at c.block_laws.ensures (rule c.args.look.texts c.args.look.code.now) text bs me os ended (walked.place text (after_fillers bs)) c.in-End.ensures.read refl
-    ∙ c.end_of_text.ensures.first (rule c.args.look.texts c.args.look.code.now) text os
+    ∙ scanned_at (rule c.args.look.texts c.args.look.code.now) text bs me os ended (walked.place text (after_fillers bs)) c.in-End.ensures.read refl
+    ∙ c.end_of_text.ensures.first (rule c.args.look.texts c.args.look.code.now) text (walked.place text (after_fillers bs)) c.args.at os
 
 pub check_list-returns-in-Fault-clause-first : goal.check_list-returns-in-Fault-clause-first
 check_list-returns-in-Fault-clause-first t c os long there =
@@ -273,7 +275,7 @@ check_list-returns-in-Fault-clause-first t c os long there =
     let me : OpenList = record { kind = c.args.kind; opening = c.args.opening; start = c.args.at } in
     let bs = drop c.loop-code.next text in
     sym (c.loop-code.invariant.first os long there)
-    ∙ scanned_at c.block_laws.ensures (rule c.args.look.texts c.args.look.code.now) text bs me os (fault c.in-Fault.code) c.filler_end.result c.in-Fault.ensures.read
+    ∙ scanned_at (rule c.args.look.texts c.args.look.code.now) text bs me os (fault c.in-Fault.code) c.filler_end.result c.in-Fault.ensures.read
     (place_is text (after_fillers bs) c.filler_end.result c.filler_end.ensures.within.1 c.filler_end.ensures.read)
 
 pub check_list-returns-in-Fault-clause-place : goal.check_list-returns-in-Fault-clause-place
@@ -289,9 +291,9 @@ check_list-returns-in-Some-clause-first t c os long there =
     let bs = drop c.loop-code.next text in
     let in_text : k.span.from ≤ length text = omega (arith, c.in-Token.ensures.place.long, c.in-Token.ensures.place.inside) in
     sym (c.loop-code.invariant.first os long there)
-    ∙ scanned_at c.block_laws.ensures (rule c.args.look.texts c.args.look.code.now) text bs me os (found (meaning_in text k) (drop k.span.to text)) k.span.from c.in-Token.ensures.read
+    ∙ scanned_at (rule c.args.look.texts c.args.look.code.now) text bs me os (found (meaning_in text k) (drop k.span.to text)) k.span.from c.in-Token.ensures.read
     (place_is text (after_fillers bs) k.span.from in_text c.in-Token.ensures.place.begins)
-    ∙ ap (λ (i : Instruction). walked.at_instruction (rule c.args.look.texts c.args.look.code.now) (walk (rule c.args.look.texts c.args.look.code.now) text) text i k.span.from me os (drop k.span.to text)) (closing_is (instruction_in text k.kind) c.in-Some.mark (c.in-Some.ensures text))
+    ∙ ap (λ (i : Instruction). walked.at_instruction (by_check (rule c.args.look.texts c.args.look.code.now) text) (walk (rule c.args.look.texts c.args.look.code.now) text) text i k.span.from me os (drop k.span.to text)) (closing_is (instruction_in text k.kind) c.in-Some.mark (c.in-Some.ensures text))
     ∙ c.end_of_list.ensures.first (rule c.args.look.texts c.args.look.code.now) text c.args.at os c.in-Token.ensures.place.inside
 
 pub check_list-returns-in_err-next-in-None-clause-first : goal.check_list-returns-in_err-next-in-None-clause-first
@@ -304,7 +306,7 @@ check_list-returns-in_err-next-in-None-clause-first t c os long there =
     let in_text : k.span.from ≤ length text = omega (arith, c.in-Token.ensures.place.long, c.in-Token.ensures.place.inside) in
     let lt : c.args.depth < length c.args.around.now = omega (arith, c.told-around, c.requires.few) in
     rw (p.1, p.2) (sym (c.loop-code.invariant.first os long there)
-    ∙ scanned_at c.block_laws.ensures (rule c.args.look.texts c.args.look.code.now) text bs me os (found (meaning_in text k) (drop k.span.to text)) k.span.from c.in-Token.ensures.read
+    ∙ scanned_at (rule c.args.look.texts c.args.look.code.now) text bs me os (found (meaning_in text k) (drop k.span.to text)) k.span.from c.in-Token.ensures.read
     (place_is text (after_fillers bs) k.span.from in_text c.in-Token.ensures.place.begins)
     ∙ c.in_err-next-in-None.ensures.first me os long (begins_more text c.args.around.now c.args.depth me os lt long there))
 
@@ -338,7 +340,7 @@ check_list-loop-code-preserved t c = record {
       let in_text : k.span.from ≤ length text = omega (arith, c.in-Token.ensures.place.long, c.in-Token.ensures.place.inside) in
       let lt : c.args.depth < length c.args.around.now = omega (arith, c.told-around, c.requires.few) in
       sym (c.in_ok-next-in-None.ensures.first me os long (begins_more text c.args.around.now c.args.depth me os lt long there))
-      ∙ sym (scanned_at c.block_laws.ensures (rule c.args.look.texts c.args.look.code.now) text bs me os (found (meaning_in text k) (drop k.span.to text)) k.span.from c.in-Token.ensures.read
+      ∙ sym (scanned_at (rule c.args.look.texts c.args.look.code.now) text bs me os (found (meaning_in text k) (drop k.span.to text)) k.span.from c.in-Token.ensures.read
       (place_is text (after_fillers bs) k.span.from in_text c.in-Token.ensures.place.begins))
       ∙ c.loop-code.invariant.first os long there;
   closes = search rules;
@@ -352,8 +354,8 @@ check_node-returns-in_err-stop-in-Mark-clause-first t c o os long there =
     let it : instruction_in text c.args.token.kind ≡ mark Iterate = is_iterate text c.args.token.kind c.in-Mark.field-0 c.in-Mark.is c.requires.node in
     let p = err_from_is_err_and c.from_residual.result c.from_residual.ensures.1 in
     rw (p.1, p.2)
-    (ap (λ (i : Instruction). walked.at_instruction code (walk code text) text i c.args.token.span.from o os (drop to text)) it
-    ∙ block_opens (walk code text) text Iter c.args.token.span.from o os to (λ e. c.if-depth-eq-BLOCK_LIMIT.false (sym long ∙ e)) c.requires.inside
+    (ap (λ (i : Instruction). walked.at_instruction (by_check code text) (walk code text) text i c.args.token.span.from o os (drop to text)) it
+    ∙ block_opens code text Iter c.args.token.span.from o os to (λ e. c.if-depth-eq-BLOCK_LIMIT.false (sym long ∙ e)) c.requires.inside
     ∙ c.in_err-stop-in-Mark.ensures.first (o ∷ os) (one_more o os c.args.depth long) there)
 
 pub check_node-returns-in_ok-stop-in-Mark-clause-first : goal.check_node-returns-in_ok-stop-in-Mark-clause-first
@@ -362,8 +364,8 @@ check_node-returns-in_ok-stop-in-Mark-clause-first t c o os long there =
     let code = rule c.args.look.texts c.args.look.code.now in
     let to = c.args.token.span.to in
     let it : instruction_in text c.args.token.kind ≡ mark Iterate = is_iterate text c.args.token.kind c.in-Mark.field-0 c.in-Mark.is c.requires.node in
-    ap (λ (i : Instruction). walked.at_instruction code (walk code text) text i c.args.token.span.from o os (drop to text)) it
-    ∙ block_opens (walk code text) text Iter c.args.token.span.from o os to (λ e. c.if-depth-eq-BLOCK_LIMIT.false (sym long ∙ e)) c.requires.inside
+    ap (λ (i : Instruction). walked.at_instruction (by_check code text) (walk code text) text i c.args.token.span.from o os (drop to text)) it
+    ∙ block_opens code text Iter c.args.token.span.from o os to (λ e. c.if-depth-eq-BLOCK_LIMIT.false (sym long ∙ e)) c.requires.inside
     ∙ c.in_ok-stop-in-Mark.ensures.first (o ∷ os) (one_more o os c.args.depth long) there
 
 pub check_gathered-returns-in-Ok-clause-first : goal.check_gathered-returns-in-Ok-clause-first

@@ -3,7 +3,8 @@ use Rattle.teco_scan.specs.Tree.{Nodes}
 use Rattle.teco_scan.specs.Lists.{list_at}
 use Rattle.teco_check.specs.Clean.{is_clean}
 use Rattle.teco_check.specs.Checked.{item_length, held, may_hold, AreOpen}
-use Rattle.teco_check.specs.Walk.{OpenList, rule, walk}
+use Rattle.teco_scan.specs.Walk.{OpenList}
+use Rattle.teco_check.specs.Walk.{rule, walk}
 use Rattle.teco_check.specs.Walked.{BeginThere}
 use Rattle.teco_check.proofs.faults.+check.Given as goal
 
