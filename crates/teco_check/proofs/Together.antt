@@ -2,7 +2,7 @@
 use Rattle.std.proofs.Common.{◌≡◌, ◌≢◌, ◌⊎◌, ℕ, zero, suc, ◌<◌, ◌≤◌, Bool, true, false, List, [], ◌∷◌, length, Option, Some, None, IfSome, IsSomeAnd, cond as choose, refl, sym, ap, ◌∙◌, subst, inl, inr, arith}
 use Rattle.std.specs.Prelude.{◌==◌}
 use Rattle.teco_core.specs.Ascii.{is_filler}
-use Rattle.teco_scan.specs.declared.breaks.Fault.{Fault as RunFault}
+use Rattle.teco_scan.specs.declared.breaks.ListFault.{ListFault}
 use Rattle.teco_scan.specs.declared.command.BlockMark.{BlockMark}
 use Rattle.teco_scan.specs.declared.command.BlockMark.TheVariants.{Iterate, EndIteration, Otherwise, EndTest}
 use Rattle.teco_scan.specs.declared.command.RegisterCommand.TheVariants as registers
@@ -115,11 +115,11 @@ wrong_uncoded code bytes lists (token.set_text q t) = of_hold (code.holds q)
     of_hold false = tt
 
 module _ (text : List ℕ) where
-  abbrev spelled : Walker RunFault
+  abbrev spelled : Walker ListFault
   spelled o os bs = walk by_spelling text o os bs
 
   -- A fault, if there is one, is not before this place.
-  abbrev From : ℕ → Option RunFault → Option RunFault → Type 0
+  abbrev From : ℕ → Option ListFault → Option ListFault → Type 0
   From at r s = IfSome r (λ there. at ≤ there.at)
 
   break_from : (low at : ℕ) (b : Break) (o : OpenList) → low ≤ at → From low (Some (broken_so at b o)) None
@@ -128,7 +128,7 @@ module _ (text : List ℕ) where
   break_from low at unended o h = h
   break_from low at too_deep o h = h
 
-  sooner : (low high : ℕ) (r : Option RunFault) → low ≤ high → From high r None → From low r None
+  sooner : (low high : ℕ) (r : Option ListFault) → low ≤ high → From high r None → From low r None
   sooner low high None h from = tt
   sooner low high (Some there) h from = omega (arith, h, from)
 
@@ -143,18 +143,18 @@ module _ (text : List ℕ) where
       let above : low ≤ at = omega (arith, fillers_short bs) in
       let onward : (a : OpenList) (around : List OpenList) (t : TokenMeaning) (more : List ℕ) → scan bs ≡ found t more → From low (spelled a around more) None
           = λ a around t more e. sooner low (place text more) (spelled a around more) (omega (arith, scan_short bs t more e)) ((from_place n).from a around more (omega (arith, lt, scan_short bs t more e))) in
-      subst (λ x. From low x None) (sym (unrolls RunFault by_spelling text bs o os))
-      (scans RunFault RunFault by_spelling by_spelling spelled spelled text (From low) (scan bs) at o os
+      subst (λ x. From low x None) (sym (unrolls ListFault by_spelling text bs o os))
+      (scans ListFault ListFault by_spelling by_spelling spelled spelled text (From low) (scan bs) at o os
       (record { breaks = λ b a. break_from low at b a above; none = tt })
       (λ t more e. record { on = λ a around. onward a around t more e })
       (λ t more e x. onward o os t more e)) }
 
   -- What a run tells where a check tells this: the same break, or, where the check tells of an item, none or a later one.
-  abbrev pub Beside : Option RunFault → Option Fault → Type 0
+  abbrev pub Beside : Option ListFault → Option Fault → Type 0
   Beside run None = run ≡ None
   Beside run (Some told) = IsSomeAnd run (λ there. IsOneBreak there told) ⊎ ((code_of told.wrong ≡ None) × IfSome run (λ there. told.at < there.at))
 
-  later : (at next : ℕ) (r : Option RunFault) → at < next → From next r None → IfSome r (λ there. at < there.at)
+  later : (at next : ℕ) (r : Option ListFault) → at < next → From next r None → IfSome r (λ there. at < there.at)
   later at next None h from = tt
   later at next (Some there) h from = omega (arith, h, from)
 
@@ -173,9 +173,9 @@ module _ (text : List ℕ) where
       let at = place text (after_fillers bs) in
       let onward : (a : OpenList) (around : List OpenList) (t : TokenMeaning) (more : List ℕ) → scan bs ≡ found t more → Beside (spelled a around more) (walk (by_check code text) text a around more)
           = λ a around t more e. (beside_all code n).beside a around more (omega (arith, lt, scan_short bs t more e)) (omega (arith, inside, scan_short bs t more e)) in
-      subst (λ x. Beside x (walk (by_check code text) text o os bs)) (sym (unrolls RunFault by_spelling text bs o os))
+      subst (λ x. Beside x (walk (by_check code text) text o os bs)) (sym (unrolls ListFault by_spelling text bs o os))
       (subst (λ y. Beside (at_scan by_spelling spelled text (scan bs) at o os) y) (sym (unrolls Fault (by_check code text) text bs o os))
-      (scans RunFault Fault by_spelling (by_check code text) spelled (walk (by_check code text) text) text Beside (scan bs) at o os
+      (scans ListFault Fault by_spelling (by_check code text) spelled (walk (by_check code text) text) text Beside (scan bs) at o os
       (record { breaks = λ b a. inl (record { at = at; broken = b; list = a; by_run = refl; by_check = refl }); none = refl })
       (λ t more e. record { on = λ a around. onward a around t more e })
       (λ t more e x. item_beside code at (wrong_with code text (o ∷ os) x) o os more (wrong_uncoded code text (o ∷ os) x)
@@ -184,8 +184,8 @@ module _ (text : List ℕ) where
 pub text_beside : (n : ℕ) (code : List Bool) (text : List ℕ) → Beside text (first_break text) (first_within n code text)
 text_beside n code text = (beside_all text (rule n code) (suc (length text))).beside own_list [] text (omega arith) (omega arith)
 
-pub one_code : (run : RunFault) (told : Fault) → IsOneBreak run told → code_of told.wrong ≡ Some run.code
-one_code run told h = ap (λ (x : Fault). code_of x.wrong) h.by_check ∙ same h.broken ∙ sym (ap (λ (x : RunFault). Some x.code) h.by_run)
+pub one_code : (run : ListFault) (told : Fault) → IsOneBreak run told → code_of told.wrong ≡ Some run.code
+one_code run told h = ap (λ (x : Fault). code_of x.wrong) h.by_check ∙ same h.broken ∙ sym (ap (λ (x : ListFault). Some x.code) h.by_run)
   where
     same : (b : Break) → code_of (told_break h.at b h.list).wrong ≡ Some (broken_so h.at b h.list).code
     same (unreadable c) = refl
@@ -193,8 +193,8 @@ one_code run told h = ap (λ (x : Fault). code_of x.wrong) h.by_check ∙ same h
     same unended = refl
     same too_deep = refl
 
-pub one_place : (run : RunFault) (told : Fault) → IsOneBreak run told → told.wrong ≢ wrongs.Unended → run.at ≡ told.at
-one_place run told h ends = ap (λ (x : RunFault). x.at) h.by_run ∙ same h.broken (λ e. ends (ap (λ (x : Fault). x.wrong) h.by_check ∙ e)) ∙ sym (ap (λ (x : Fault). x.at) h.by_check)
+pub one_place : (run : ListFault) (told : Fault) → IsOneBreak run told → told.wrong ≢ wrongs.Unended → run.at ≡ told.at
+one_place run told h ends = ap (λ (x : ListFault). x.at) h.by_run ∙ same h.broken (λ e. ends (ap (λ (x : Fault). x.wrong) h.by_check ∙ e)) ∙ sym (ap (λ (x : Fault). x.at) h.by_check)
   where
     same : (b : Break) → (told_break h.at b h.list).wrong ≢ wrongs.Unended → (broken_so h.at b h.list).at ≡ (told_break h.at b h.list).at
     same (unreadable c) ne = refl
@@ -203,7 +203,7 @@ one_place run told h ends = ap (λ (x : RunFault). x.at) h.by_run ∙ same h.bro
     same too_deep ne = refl
 
 -- the clauses of the law
-pub told_same : (text : List ℕ) (run : Option RunFault) (told : Option Fault) → Beside text run told → IfSome told (λ x. code_of x.wrong ≢ None → IsSomeAnd run (λ there. IsOneBreak there x))
+pub told_same : (text : List ℕ) (run : Option ListFault) (told : Option Fault) → Beside text run told → IfSome told (λ x. code_of x.wrong ≢ None → IsSomeAnd run (λ there. IsOneBreak there x))
 told_same text run None h = tt
 told_same text run (Some x) (inl h) = λ coded. h
 told_same text run (Some x) (inr h) = λ coded. absurd (coded h.0)
@@ -211,12 +211,12 @@ told_same text run (Some x) (inr h) = λ coded. absurd (coded h.0)
 some_none : {X : Type 0} (x : X) → Some x ≡ None → ⊥
 some_none x e = cc
 
-pub told_later : (text : List ℕ) (run : Option RunFault) (told : Option Fault) → Beside text run told → IfSome told (λ x. code_of x.wrong ≡ None → IfSome run (λ there. x.at < there.at))
+pub told_later : (text : List ℕ) (run : Option ListFault) (told : Option Fault) → Beside text run told → IfSome told (λ x. code_of x.wrong ≡ None → IfSome run (λ there. x.at < there.at))
 told_later text run None h = tt
 told_later text None (Some x) h = λ none. tt
 told_later text (Some there) (Some x) (inl h) = λ none. absurd (some_none there.code (sym (one_code there x h) ∙ none))
 told_later text (Some there) (Some x) (inr h) = λ none. h.1
 
-pub told_none : (text : List ℕ) (run : Option RunFault) (told : Option Fault) → Beside text run told → told ≡ None → run ≡ None
+pub told_none : (text : List ℕ) (run : Option ListFault) (told : Option Fault) → Beside text run told → told ≡ None → run ≡ None
 told_none text run None h e = h
 told_none text run (Some x) h e = absurd (some_none x e)

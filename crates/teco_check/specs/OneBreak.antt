@@ -1,13 +1,13 @@
 -- One break of a text, as a run tells it and as a check does.
 use Rattle.std.specs.Prelude.{◌≡◌, ℕ}
-use Rattle.teco_scan.specs.declared.breaks.Fault.{Fault as RunFault}
+use Rattle.teco_scan.specs.declared.breaks.ListFault.{ListFault}
 use Rattle.teco_scan.specs.Breaks.{broken_so}
 use Rattle.teco_scan.specs.Walk.{Break, OpenList}
 use Rattle.teco_check.specs.Walk.{told_break}
 use Rattle.teco_check.specs.declared.faults.Fault.{Fault}
 
 -- Both are of the same break, at one place, in one list.
-pub record IsOneBreak (run : RunFault) (told : Fault) : Type 0 where
+pub record IsOneBreak (run : ListFault) (told : Fault) : Type 0 where
   pub at : ℕ
   pub broken : Break
   pub list : OpenList

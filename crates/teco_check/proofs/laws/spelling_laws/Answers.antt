@@ -1,5 +1,5 @@
 use Rattle.std.proofs.Common.{◌≡◌, ◌≢◌, IfSome, IsSomeAnd, Option, Some, None, refl}
-use Rattle.teco_scan.specs.declared.breaks.Fault.{Fault as RunFault}
+use Rattle.teco_scan.specs.declared.breaks.ListFault.{ListFault}
 use Rattle.teco_scan.specs.Breaks.{first_break}
 use Rattle.teco_check.specs.declared.faults.Fault.{Fault}
 use Rattle.teco_check.specs.Walk.{first_within}
