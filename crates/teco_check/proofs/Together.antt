@@ -110,6 +110,7 @@ wrong_uncoded code bytes lists (token.set_text q t) = of_hold (code.holds q)
     of_may : (v : Bool) → IfSome (choose v None (Some wrongs.InText)) (λ w. code_of w ≡ None)
     of_may true = tt
     of_may false = refl
+
     of_hold : (v : Bool) → IfSome (choose v (choose (code.may t) None (Some wrongs.InText)) None) (λ w. code_of w ≡ None)
     of_hold true = of_may (code.may t)
     of_hold false = tt
@@ -137,17 +138,19 @@ module _ (text : List ℕ) where
 
   from_place : (n : ℕ) → AllFrom n
   from_place zero = record { from = λ o os bs lt. absurd (omega (arith, lt)) }
-  from_place (suc n) = record { from = λ o os bs lt.
-      let low = place text bs in
-      let at = place text (after_fillers bs) in
-      let above : low ≤ at = omega (arith, fillers_short bs) in
-      let onward : (a : OpenList) (around : List OpenList) (t : TokenMeaning) (more : List ℕ) → scan bs ≡ found t more → From low (spelled a around more) None
-          = λ a around t more e. sooner low (place text more) (spelled a around more) (omega (arith, scan_short bs t more e)) ((from_place n).from a around more (omega (arith, lt, scan_short bs t more e))) in
-      subst (λ x. From low x None) (sym (unrolls ListFault by_spelling text bs o os))
-      (scans ListFault ListFault by_spelling by_spelling spelled spelled text (From low) (scan bs) at o os
-      (record { breaks = λ b a. break_from low at b a above; none = tt })
-      (λ t more e. record { on = λ a around. onward a around t more e })
-      (λ t more e x. onward o os t more e)) }
+  from_place (suc n) = record {
+    from = λ o os bs lt.
+        let low = place text bs in
+        let at = place text (after_fillers bs) in
+        let above : low ≤ at = omega (arith, fillers_short bs) in
+        let onward : (a : OpenList) (around : List OpenList) (t : TokenMeaning) (more : List ℕ) → scan bs ≡ found t more → From low (spelled a around more) None
+        = λ a around t more e. sooner low (place text more) (spelled a around more) (omega (arith, scan_short bs t more e)) ((from_place n).from a around more (omega (arith, lt, scan_short bs t more e))) in
+        subst (λ x. From low x None) (sym (unrolls ListFault by_spelling text bs o os))
+        (scans ListFault ListFault by_spelling by_spelling spelled spelled text (From low) (scan bs) at o os
+        (record { breaks = λ b a. break_from low at b a above; none = tt })
+        (λ t more e. record { on = λ a around. onward a around t more e })
+        (λ t more e x. onward o os t more e));
+  }
 
   -- What a run tells where a check tells this: the same break, or, where the check tells of an item, none or a later one.
   abbrev pub Beside : Option ListFault → Option Fault → Type 0
@@ -169,17 +172,19 @@ module _ (text : List ℕ) where
 
   beside_all : (code : CodeRule) (n : ℕ) → AllBeside code n
   beside_all code zero = record { beside = λ o os bs lt inside. absurd (omega (arith, lt)) }
-  beside_all code (suc n) = record { beside = λ o os bs lt inside.
-      let at = place text (after_fillers bs) in
-      let onward : (a : OpenList) (around : List OpenList) (t : TokenMeaning) (more : List ℕ) → scan bs ≡ found t more → Beside (spelled a around more) (walk (by_check code text) text a around more)
-          = λ a around t more e. (beside_all code n).beside a around more (omega (arith, lt, scan_short bs t more e)) (omega (arith, inside, scan_short bs t more e)) in
-      subst (λ x. Beside x (walk (by_check code text) text o os bs)) (sym (unrolls ListFault by_spelling text bs o os))
-      (subst (λ y. Beside (at_scan by_spelling spelled text (scan bs) at o os) y) (sym (unrolls Fault (by_check code text) text bs o os))
-      (scans ListFault Fault by_spelling (by_check code text) spelled (walk (by_check code text) text) text Beside (scan bs) at o os
-      (record { breaks = λ b a. inl (record { at = at; broken = b; list = a; by_run = refl; by_check = refl }); none = refl })
-      (λ t more e. record { on = λ a around. onward a around t more e })
-      (λ t more e x. item_beside code at (wrong_with code text (o ∷ os) x) o os more (wrong_uncoded code text (o ∷ os) x)
-      (omega (arith, inside, fillers_short bs, token_short bs t more e)) (onward o os t more e)))) }
+  beside_all code (suc n) = record {
+    beside = λ o os bs lt inside.
+        let at = place text (after_fillers bs) in
+        let onward : (a : OpenList) (around : List OpenList) (t : TokenMeaning) (more : List ℕ) → scan bs ≡ found t more → Beside (spelled a around more) (walk (by_check code text) text a around more)
+        = λ a around t more e. (beside_all code n).beside a around more (omega (arith, lt, scan_short bs t more e)) (omega (arith, inside, scan_short bs t more e)) in
+        subst (λ x. Beside x (walk (by_check code text) text o os bs)) (sym (unrolls ListFault by_spelling text bs o os))
+        (subst (λ y. Beside (at_scan by_spelling spelled text (scan bs) at o os) y) (sym (unrolls Fault (by_check code text) text bs o os))
+        (scans ListFault Fault by_spelling (by_check code text) spelled (walk (by_check code text) text) text Beside (scan bs) at o os
+        (record { breaks = λ b a. inl (record { at = at; broken = b; list = a; by_run = refl; by_check = refl }); none = refl })
+        (λ t more e. record { on = λ a around. onward a around t more e })
+        (λ t more e x. item_beside code at (wrong_with code text (o ∷ os) x) o os more (wrong_uncoded code text (o ∷ os) x)
+        (omega (arith, inside, fillers_short bs, token_short bs t more e)) (onward o os t more e))));
+  }
 
 pub text_beside : (n : ℕ) (code : List Bool) (text : List ℕ) → Beside text (first_break text) (first_within n code text)
 text_beside n code text = (beside_all text (rule n code) (suc (length text))).beside own_list [] text (omega arith) (omega arith)

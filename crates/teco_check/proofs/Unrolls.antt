@@ -9,7 +9,7 @@ use Rattle.teco_scan.specs.Walk.{OpenList, place, in_block, at_scan}
 use Rattle.teco_scan.proofs.WalkUnrolls as unrolled
 use Rattle.teco_check.specs.declared.faults.Fault.{Fault}
 use Rattle.teco_check.specs.Checked.{lands_below}
-use Rattle.teco_check.specs.Walk.{CodeRule, by_check, lands_in, walk}
+use Rattle.teco_check.specs.Walk.{CodeRule, by_check, lands_in, check_walk}
 use Rattle.teco_check.specs.Walked.{BeginThere}
 use Rattle.teco_check.proofs.Open.{below_kept}
 
@@ -23,13 +23,13 @@ begins_more bytes starts d o os lt is h name =
 
 -- from what was scanned on
 pub scanned_at : (code : CodeRule) (bytes bs : List ℕ) (o : OpenList) (os : List OpenList) (s : Scanned) (at : ℕ) → s ≡ scan bs → place bytes (after_fillers bs) ≡ at
-    → walk code bytes o os bs ≡ at_scan (by_check code bytes) (walk code bytes) bytes s at o os
+    → check_walk code bytes o os bs ≡ at_scan (by_check code bytes) (check_walk code bytes) bytes s at o os
 scanned_at code bytes bs o os s at e p = unrolled.scanned_at Fault (by_check code bytes) bytes bs o os s at e p
 
 -- a block that is opened, where fewer are open than may be
 pub block_opens : (code : CodeRule) (bytes : List ℕ) (kind : Kind) (at : ℕ) (o : OpenList) (os : List OpenList) (to : ℕ) → (length os ≡ 64 → ⊥) → to ≤ length bytes
-    → in_block (by_check code bytes) (walk code bytes) bytes kind at o os (drop to bytes) ≡ walk code bytes (record { kind = Some kind; opening = at; start = to }) (o ∷ os) (drop to bytes)
-block_opens code bytes kind at o os to few inside = unrolled.block_opens Fault (by_check code bytes) bytes (walk code bytes) kind at o os to few inside
+    → in_block (by_check code bytes) (check_walk code bytes) bytes kind at o os (drop to bytes) ≡ check_walk code bytes (record { kind = Some kind; opening = at; start = to }) (o ∷ os) (drop to bytes)
+block_opens code bytes kind at o os to few inside = unrolled.block_opens Fault (by_check code bytes) bytes (check_walk code bytes) kind at o os to few inside
 
 pub one_more : (o : OpenList) (os : List OpenList) (d : ℕ) → length os ≡ d → length (o ∷ os) ≡ d + 1
 one_more o os d e = omega (arith, e)

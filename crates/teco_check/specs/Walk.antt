@@ -55,8 +55,8 @@ abbrev pub by_check : CodeRule → List ℕ → Rule Fault
 by_check code bytes =
     record { breaks = told_break; item = λ at item lists. told_item at (wrong_with code bytes lists item) }
 
-abbrev pub walk : CodeRule → List ℕ → Walker Fault
-walk code bytes list around rest = walked.walk (by_check code bytes) bytes list around rest
+abbrev pub check_walk : CodeRule → List ℕ → Walker Fault
+check_walk code bytes list around rest = walked.walk (by_check code bytes) bytes list around rest
 
 -- the code registers, where texts are looked into so many deep
 abbrev pub rule : ℕ → List Bool → CodeRule
@@ -64,7 +64,7 @@ rule n code = record { holds = held code; may = may_hold n code }
 
 -- The first fault of a text, if it has one, where so many texts in one another are looked into.
 abbrev pub first_within : ℕ → List Bool → List ℕ → Option Fault
-first_within n code bytes = walk (rule n code) bytes own_list [] bytes
+first_within n code bytes = check_walk (rule n code) bytes own_list [] bytes
 
 abbrev pub first_of : List Bool → List ℕ → Option Fault
 first_of code bytes = first_within MOST_TEXTS code bytes

@@ -9,7 +9,7 @@ ghost use Rattle.teco_check.specs.Clean.{is_clean};
 ghost use Rattle.teco_check.specs.Checked.{is_stray, code_of};
 ghost use Rattle.teco_scan.specs.Walk.{OpenList, at_end};
 ghost use Rattle.teco_scan.specs.Walk as walked;
-ghost use Rattle.teco_check.specs.Walk.{CodeRule, by_check, opened_at, walk};
+ghost use Rattle.teco_check.specs.Walk.{CodeRule, by_check, opened_at, check_walk};
 ghost use Rattle.teco_check.specs.Walked.{after_list};
 
 use crate::faults::{Fault, Wrong};
@@ -41,7 +41,7 @@ pub fn end_of_list(
     ensures closes { (text : List ℕ) (d : ℕ)
         → IfOk result (λ stop. (at_mark list_at mark (drop to text) kind d).1 ≡ close_of text (Ok stop)) }
     ensures first { (code : CodeRule) (text : List ℕ) (start : ℕ) (os : List OpenList) → to ≤ length text
-        → walked.at_mark (by_check code text) (walk code text) text mark kind from (record { kind = kind; opening = opening; start = start }) os (drop to text)
+        → walked.at_mark (by_check code text) (check_walk code text) text mark kind from (record { kind = kind; opening = opening; start = start }) os (drop to text)
         ≡ after_list code text kind opening os result }
     ensures place { IfOk result (λ stop. stop.to ≡ to) }
     ensures stray { IfErr result (λ fault. (fault.at ≡ from) × (is_stray fault.wrong ≡ true)) }

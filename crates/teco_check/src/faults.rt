@@ -14,7 +14,7 @@ ghost use Rattle.std.specs.Prelude.{Ok};
 ghost use Rattle.teco_check.specs.Clean.{is_fine, is_clean, clean_within};
 ghost use Rattle.teco_scan.specs.Walk.{OpenList};
 ghost use Rattle.teco_scan.specs.Walk as walked;
-ghost use Rattle.teco_check.specs.Walk.{by_check, first_within, rule, told_item, walk, wrong_with};
+ghost use Rattle.teco_check.specs.Walk.{by_check, first_within, rule, told_item, check_walk, wrong_with};
 ghost use Rattle.teco_check.specs.Walked.{BeginThere, after_node, after_list};
 ghost use Rattle.teco_check.specs.Checked.{item_holds, item_length, inner_length, held, may_hold, lands_below, AreInside, AreOpen, IsFaultHere, is_stray, suits, code_of, rest_clean};
 
@@ -159,7 +159,7 @@ fn check_item(
         → is_fine (held look.entry.code.now) (may_hold look.entry.texts look.entry.code.now) lists (item_in text.now item) ≡ is_ok result }
     ensures place { IfOk result (λ x. x ≡ to) }
     ensures first { (o : OpenList) (os : List OpenList) → suc (length os) ≡ count → BeginThere text.now starts.now (o ∷ os)
-        → walked.after_item (walk (rule look.entry.texts look.entry.code.now) text.now) (told_item from (wrong_with (rule look.entry.texts look.entry.code.now) text.now (o ∷ os) (item_in text.now item))) o os (drop to text.now)
+        → walked.after_item (check_walk (rule look.entry.texts look.entry.code.now) text.now) (told_item from (wrong_with (rule look.entry.texts look.entry.code.now) text.now (o ∷ os) (item_in text.now item))) o os (drop to text.now)
         ≡ after_node (rule look.entry.texts look.entry.code.now) text.now o os result }
     ensures suits { IfErr result (λ fault. (fault.at ≡ from) × (suits fault.wrong (step (item_in text.now item)) ≡ true)) }
     ensures code { IfErr result (λ fault. code_of fault.wrong ≡ None) }
@@ -189,7 +189,7 @@ fn check_conditional(
         → is_clean (held look.entry.code.now) (may_hold look.entry.texts look.entry.code.now) lists (cond_at list_at k depth t (list_at (Some Kind.Then) (suc depth) (drop at text.now))).0
         ≡ rest_clean (held look.entry.code.now) (may_hold look.entry.texts look.entry.code.now) lists text.now k depth result }
     ensures first { (o : OpenList) (os : List OpenList) → length os ≡ depth → BeginThere text.now starts.now (o ∷ os)
-        → walk (rule look.entry.texts look.entry.code.now) text.now (record { kind = Some Kind.Then; opening = opening; start = at }) (o ∷ os) (drop at text.now) ≡ after_node (rule look.entry.texts look.entry.code.now) text.now o os result }
+        → check_walk (rule look.entry.texts look.entry.code.now) text.now (record { kind = Some Kind.Then; opening = opening; start = at }) (o ∷ os) (drop at text.now) ≡ after_node (rule look.entry.texts look.entry.code.now) text.now o os result }
     ensures closes { (t : Test) (k : Option Kind)
         → IfOk result (λ to. (cond_at list_at k depth t (list_at (Some Kind.Then) (suc depth) (drop at text.now))).1
         ≡ (list_at k depth (drop to text.now)).1) }
@@ -236,7 +236,7 @@ fn check_node(
         → is_clean (held look.entry.code.now) (may_hold look.entry.texts look.entry.code.now) lists (at_instruction list_at (instruction_in text.now token.kind) m (drop token.span.to text.now) k depth).0
         ≡ rest_clean (held look.entry.code.now) (may_hold look.entry.texts look.entry.code.now) lists text.now k depth result }
     ensures first { (o : OpenList) (os : List OpenList) → length os ≡ depth → BeginThere text.now starts.now (o ∷ os)
-        → walked.at_instruction (by_check (rule look.entry.texts look.entry.code.now) text.now) (walk (rule look.entry.texts look.entry.code.now) text.now) text.now (instruction_in text.now token.kind) token.span.from o os (drop token.span.to text.now)
+        → walked.at_instruction (by_check (rule look.entry.texts look.entry.code.now) text.now) (check_walk (rule look.entry.texts look.entry.code.now) text.now) text.now (instruction_in text.now token.kind) token.span.from o os (drop token.span.to text.now)
         ≡ after_node (rule look.entry.texts look.entry.code.now) text.now o os result }
     ensures closes { (m : Modifiers) (k : Option Kind)
         → IfOk result (λ to. (at_instruction list_at (instruction_in text.now token.kind) m (drop token.span.to text.now) k depth).1
@@ -294,7 +294,7 @@ fn check_list(
     ensures clean { (lists : List Nodes) → AreOpen text.now around.now depth lists
         → is_clean (held look.entry.code.now) (may_hold look.entry.texts look.entry.code.now) ((list_at kind depth (drop at text.now)).0 ∷ lists) (list_at kind depth (drop at text.now)).0 ≡ is_ok result }
     ensures first { (os : List OpenList) → length os ≡ depth → BeginThere text.now around.now os
-        → walk (rule look.entry.texts look.entry.code.now) text.now (record { kind = kind; opening = opening; start = at }) os (drop at text.now) ≡ after_list (rule look.entry.texts look.entry.code.now) text.now kind opening os result }
+        → check_walk (rule look.entry.texts look.entry.code.now) text.now (record { kind = kind; opening = opening; start = at }) os (drop at text.now) ≡ after_list (rule look.entry.texts look.entry.code.now) text.now kind opening os result }
     ensures closes { (b : Kind) → kind ≡ Some b
         → IfOk result (λ stop. (list_at kind depth (drop at text.now)).1 ≡ close_of text.now (Ok stop)) }
     ensures within { IfOk result (λ stop. (at ≤ stop.to) × (stop.to ≤ length text.now)) }

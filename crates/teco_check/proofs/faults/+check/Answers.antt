@@ -19,7 +19,7 @@ use Rattle.teco_check.proofs.Inner.{token_long, a_text, fine_text, wrong_text, t
 use Rattle.teco_check.proofs.Unrolls.{scanned_at, begins_more, block_opens, one_more}
 use Rattle.teco_scan.specs.Walk.{OpenList}
 use Rattle.teco_scan.specs.Walk as walked
-use Rattle.teco_check.specs.Walk.{by_check, lands_in, rule, walk}
+use Rattle.teco_check.specs.Walk.{by_check, lands_in, rule, check_walk}
 use Rattle.teco_scan.specs.Scan.{after_fillers}
 use Rattle.teco_check.proofs.Here.{fault_here, stray_here}
 use Rattle.teco_check.proofs.Walked.{found_at, iter_faulty, iter_clean, cond_faulty, cond_clean, other_faulty, other_clean, iter_breaks, cond_breaks, other_breaks, iterate_deep, decide_deep, tag_clean, escape_clean, iterate_at, decide_at, wrong_unclean, deeper, closes_deeper, is_iterate, closing_is, item_rest}
@@ -293,7 +293,7 @@ check_list-returns-in-Some-clause-first t c os long there =
     sym (c.loop-code.invariant.first os long there)
     ∙ scanned_at (rule c.args.look.texts c.args.look.code.now) text bs me os (found (meaning_in text k) (drop k.span.to text)) k.span.from c.in-Token.ensures.read
     (place_is text (after_fillers bs) k.span.from in_text c.in-Token.ensures.place.begins)
-    ∙ ap (λ (i : Instruction). walked.at_instruction (by_check (rule c.args.look.texts c.args.look.code.now) text) (walk (rule c.args.look.texts c.args.look.code.now) text) text i k.span.from me os (drop k.span.to text)) (closing_is (instruction_in text k.kind) c.in-Some.mark (c.in-Some.ensures text))
+    ∙ ap (λ (i : Instruction). walked.at_instruction (by_check (rule c.args.look.texts c.args.look.code.now) text) (check_walk (rule c.args.look.texts c.args.look.code.now) text) text i k.span.from me os (drop k.span.to text)) (closing_is (instruction_in text k.kind) c.in-Some.mark (c.in-Some.ensures text))
     ∙ c.end_of_list.ensures.first (rule c.args.look.texts c.args.look.code.now) text c.args.at os c.in-Token.ensures.place.inside
 
 pub check_list-returns-in_err-next-in-None-clause-first : goal.check_list-returns-in_err-next-in-None-clause-first
@@ -354,7 +354,7 @@ check_node-returns-in_err-stop-in-Mark-clause-first t c o os long there =
     let it : instruction_in text c.args.token.kind ≡ mark Iterate = is_iterate text c.args.token.kind c.in-Mark.field-0 c.in-Mark.is c.requires.node in
     let p = err_from_is_err_and c.from_residual.result c.from_residual.ensures.1 in
     rw (p.1, p.2)
-    (ap (λ (i : Instruction). walked.at_instruction (by_check code text) (walk code text) text i c.args.token.span.from o os (drop to text)) it
+    (ap (λ (i : Instruction). walked.at_instruction (by_check code text) (check_walk code text) text i c.args.token.span.from o os (drop to text)) it
     ∙ block_opens code text Iter c.args.token.span.from o os to (λ e. c.if-depth-eq-BLOCK_LIMIT.false (sym long ∙ e)) c.requires.inside
     ∙ c.in_err-stop-in-Mark.ensures.first (o ∷ os) (one_more o os c.args.depth long) there)
 
@@ -364,7 +364,7 @@ check_node-returns-in_ok-stop-in-Mark-clause-first t c o os long there =
     let code = rule c.args.look.texts c.args.look.code.now in
     let to = c.args.token.span.to in
     let it : instruction_in text c.args.token.kind ≡ mark Iterate = is_iterate text c.args.token.kind c.in-Mark.field-0 c.in-Mark.is c.requires.node in
-    ap (λ (i : Instruction). walked.at_instruction (by_check code text) (walk code text) text i c.args.token.span.from o os (drop to text)) it
+    ap (λ (i : Instruction). walked.at_instruction (by_check code text) (check_walk code text) text i c.args.token.span.from o os (drop to text)) it
     ∙ block_opens code text Iter c.args.token.span.from o os to (λ e. c.if-depth-eq-BLOCK_LIMIT.false (sym long ∙ e)) c.requires.inside
     ∙ c.in_ok-stop-in-Mark.ensures.first (o ∷ os) (one_more o os c.args.depth long) there
 

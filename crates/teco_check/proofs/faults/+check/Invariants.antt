@@ -4,7 +4,7 @@ use Rattle.teco_scan.specs.Lists.{list_at}
 use Rattle.teco_check.specs.Clean.{is_clean}
 use Rattle.teco_check.specs.Checked.{item_length, held, may_hold, AreOpen}
 use Rattle.teco_scan.specs.Walk.{OpenList}
-use Rattle.teco_check.specs.Walk.{rule, walk}
+use Rattle.teco_check.specs.Walk.{rule, check_walk}
 use Rattle.teco_check.specs.Walked.{BeginThere}
 use Rattle.teco_check.proofs.faults.+check.Given as goal
 
@@ -39,8 +39,8 @@ invariant-check_list-loop-code l = record {
   clean : (lists : List Nodes) → AreOpen l.text l.starts (l.depth + 1) lists
       → is_clean (held l.look.code.now) (may_hold l.look.texts l.look.code.now) lists (list_at l.kind l.depth (drop l.next l.text)).0 ≡ is_clean (held l.look.code.now) (may_hold l.look.texts l.look.code.now) lists (list_at l.kind l.depth (drop l.fn.at l.text)).0;
   first : (os : List OpenList) → length os ≡ l.depth → BeginThere l.text l.fn.around os
-      → walk (rule l.look.texts l.look.code.now) l.text (record { kind = l.kind; opening = l.opening; start = l.fn.at }) os (drop l.next l.text)
-      ≡ walk (rule l.look.texts l.look.code.now) l.text (record { kind = l.kind; opening = l.opening; start = l.fn.at }) os (drop l.fn.at l.text);
+      → check_walk (rule l.look.texts l.look.code.now) l.text (record { kind = l.kind; opening = l.opening; start = l.fn.at }) os (drop l.next l.text)
+      ≡ check_walk (rule l.look.texts l.look.code.now) l.text (record { kind = l.kind; opening = l.opening; start = l.fn.at }) os (drop l.fn.at l.text);
   closes : (list_at l.kind l.depth (drop l.next l.text)).1 ≡ (list_at l.kind l.depth (drop l.fn.at l.text)).1;
 }
 
