@@ -15,6 +15,7 @@ ghost use Rattle.teco_check.specs.Clean.{is_fine, is_clean, clean_within};
 ghost use Rattle.teco_scan.specs.Walk.{OpenList};
 ghost use Rattle.teco_scan.specs.Walk as walked;
 ghost use Rattle.teco_check.specs.Walk.{by_check, first_within, rule, told_item, check_walk, wrong_with};
+ghost use Rattle.teco_check.specs.Checks.{ItemFine, ItemFirst, ListBreaks, ListClean, ListFirst, NodeBreaks, NodeClean, NodeCloses, NodeFirst, from_conditional, from_token, walk_from_conditional, walk_from_token};
 ghost use Rattle.teco_check.specs.Walked.{BeginThere, after_node, after_list};
 ghost use Rattle.teco_check.specs.Checked.{item_holds, item_length, inner_length, held, may_hold, lands_below, AreInside, AreOpen, IsFaultHere, is_stray, suits, code_of, rest_clean};
 
@@ -95,8 +96,8 @@ fn wrong_of(
     requires item { IsItemIn (length text.now) item }
     requires short { item_length item < length text.now }
     requires tags { look.tags.now ≡ text.now }
-    ensures fine { (lists : List Nodes) → AreOpen text.now starts.now count lists
-        → is_fine (held look.entry.code.now) (may_hold look.entry.texts look.entry.code.now) lists (item_in text.now item) ≡ is_none result }
+    ensures fine { ItemFine (rule look.entry.texts look.entry.code.now) text.now starts.now count
+        (item_in text.now item) (is_none result) }
     ensures first { (lists : List OpenList) → length lists ≡ count → BeginThere text.now starts.now lists
         → result ≡ wrong_with (rule look.entry.texts look.entry.code.now) text.now lists (item_in text.now item) }
     ensures suits { IfSome result (λ wrong. suits wrong (step (item_in text.now item)) ≡ true) }
@@ -155,12 +156,11 @@ fn check_item(
     requires item { IsItemIn (length text.now) item }
     requires short { item_length item < length text.now }
     requires tags { look.tags.now ≡ text.now }
-    ensures fine { (lists : List Nodes) → AreOpen text.now starts.now count lists
-        → is_fine (held look.entry.code.now) (may_hold look.entry.texts look.entry.code.now) lists (item_in text.now item) ≡ is_ok result }
+    ensures fine { ItemFine (rule look.entry.texts look.entry.code.now) text.now starts.now count
+        (item_in text.now item) (is_ok result) }
     ensures place { IfOk result (λ x. x ≡ to) }
-    ensures first { (o : OpenList) (os : List OpenList) → suc (length os) ≡ count → BeginThere text.now starts.now (o ∷ os)
-        → walked.after_item (check_walk (rule look.entry.texts look.entry.code.now) text.now) (told_item from (wrong_with (rule look.entry.texts look.entry.code.now) text.now (o ∷ os) (item_in text.now item))) o os (drop to text.now)
-        ≡ after_node (rule look.entry.texts look.entry.code.now) text.now o os result }
+    ensures first { ItemFirst (rule look.entry.texts look.entry.code.now) text.now starts.now count
+        (item_in text.now item) from to result }
     ensures suits { IfErr result (λ fault. (fault.at ≡ from) × (suits fault.wrong (step (item_in text.now item)) ≡ true)) }
     ensures code { IfErr result (λ fault. code_of fault.wrong ≡ None) }
 {
@@ -185,19 +185,14 @@ fn check_conditional(
     requires opened { IsFaultHere (drop opening text.now) Wrong.Unended }
     requires starts { AreInside text.now starts.now (depth + 1) }
     requires tags { look.tags.now ≡ text.now }
-    ensures clean { (lists : List Nodes) (t : Test) (k : Option Kind) → AreOpen text.now starts.now (depth + 1) lists
-        → is_clean (held look.entry.code.now) (may_hold look.entry.texts look.entry.code.now) lists (cond_at list_at k depth t (list_at (Some Kind.Then) (suc depth) (drop at text.now))).0
-        ≡ rest_clean (held look.entry.code.now) (may_hold look.entry.texts look.entry.code.now) lists text.now k depth result }
-    ensures first { (o : OpenList) (os : List OpenList) → length os ≡ depth → BeginThere text.now starts.now (o ∷ os)
-        → check_walk (rule look.entry.texts look.entry.code.now) text.now (record { kind = Some Kind.Then; opening = opening; start = at }) (o ∷ os) (drop at text.now) ≡ after_node (rule look.entry.texts look.entry.code.now) text.now o os result }
-    ensures closes { (t : Test) (k : Option Kind)
-        → IfOk result (λ to. (cond_at list_at k depth t (list_at (Some Kind.Then) (suc depth) (drop at text.now))).1
-        ≡ (list_at k depth (drop to text.now)).1) }
+    ensures clean { (test : Test) → NodeClean (rule look.entry.texts look.entry.code.now) text.now starts.now depth
+        (from_conditional text.now at test depth) result }
+    ensures first { NodeFirst (rule look.entry.texts look.entry.code.now) text.now starts.now depth
+        (walk_from_conditional (rule look.entry.texts look.entry.code.now) text.now opening at) result }
+    ensures closes { (test : Test) → NodeCloses text.now depth (from_conditional text.now at test depth) result }
     ensures within { IfOk result (λ to. (at ≤ to) × (to ≤ length text.now)) }
     ensures place { IfErr result (λ fault. IsFaultHere (drop fault.at text.now) fault.wrong) }
-    ensures breaks { (code : Code) (t : Test) (k : Option Kind)
-        → IfErr result (λ fault. code_of fault.wrong ≡ Some code
-        → (cond_at list_at k depth t (list_at (Some Kind.Then) (suc depth) (drop at text.now))).1 ≡ broken code) }
+    ensures breaks { (test : Test) → NodeBreaks (from_conditional text.now at test depth) result }
 {
     let stop = check_list(text, look, opening, at, Some(Kind::Then), depth + 1, starts)?;
     if stop.divided {
@@ -232,20 +227,14 @@ fn check_node(
     requires token { scan (drop token.span.from text.now) ≡ found (meaning_in text.now token) (drop token.span.to text.now) }
     requires node { closing_mark (instruction_in text.now token.kind) ≡ None }
     requires tags { look.tags.now ≡ text.now }
-    ensures clean { (lists : List Nodes) (m : Modifiers) (k : Option Kind) → AreOpen text.now starts.now (depth + 1) lists
-        → is_clean (held look.entry.code.now) (may_hold look.entry.texts look.entry.code.now) lists (at_instruction list_at (instruction_in text.now token.kind) m (drop token.span.to text.now) k depth).0
-        ≡ rest_clean (held look.entry.code.now) (may_hold look.entry.texts look.entry.code.now) lists text.now k depth result }
-    ensures first { (o : OpenList) (os : List OpenList) → length os ≡ depth → BeginThere text.now starts.now (o ∷ os)
-        → walked.at_instruction (by_check (rule look.entry.texts look.entry.code.now) text.now) (check_walk (rule look.entry.texts look.entry.code.now) text.now) text.now (instruction_in text.now token.kind) token.span.from o os (drop token.span.to text.now)
-        ≡ after_node (rule look.entry.texts look.entry.code.now) text.now o os result }
-    ensures closes { (m : Modifiers) (k : Option Kind)
-        → IfOk result (λ to. (at_instruction list_at (instruction_in text.now token.kind) m (drop token.span.to text.now) k depth).1
-        ≡ (list_at k depth (drop to text.now)).1) }
+    ensures clean { (m : Modifiers) → NodeClean (rule look.entry.texts look.entry.code.now) text.now starts.now depth
+        (from_token text.now token m depth) result }
+    ensures first { NodeFirst (rule look.entry.texts look.entry.code.now) text.now starts.now depth
+        (walk_from_token (rule look.entry.texts look.entry.code.now) text.now token) result }
+    ensures closes { (m : Modifiers) → NodeCloses text.now depth (from_token text.now token m depth) result }
     ensures within { IfOk result (λ to. (token.span.to ≤ to) × (to ≤ length text.now)) }
     ensures place { IfErr result (λ fault. IsFaultHere (drop fault.at text.now) fault.wrong) }
-    ensures breaks { (code : Code) (m : Modifiers) (k : Option Kind)
-        → IfErr result (λ fault. code_of fault.wrong ≡ Some code
-        → (at_instruction list_at (instruction_in text.now token.kind) m (drop token.span.to text.now) k depth).1 ≡ broken code) }
+    ensures breaks { (m : Modifiers) → NodeBreaks (from_token text.now token m depth) result }
 {
     let from = token.span.from;
     let to = token.span.to;
@@ -291,16 +280,15 @@ fn check_list(
     requires opened { kind ≢ None → IsFaultHere (drop opening text.now) Wrong.Unended }
     requires starts { AreInside text.now around.now depth }
     requires tags { look.tags.now ≡ text.now }
-    ensures clean { (lists : List Nodes) → AreOpen text.now around.now depth lists
-        → is_clean (held look.entry.code.now) (may_hold look.entry.texts look.entry.code.now) ((list_at kind depth (drop at text.now)).0 ∷ lists) (list_at kind depth (drop at text.now)).0 ≡ is_ok result }
-    ensures first { (os : List OpenList) → length os ≡ depth → BeginThere text.now around.now os
-        → check_walk (rule look.entry.texts look.entry.code.now) text.now (record { kind = kind; opening = opening; start = at }) os (drop at text.now) ≡ after_list (rule look.entry.texts look.entry.code.now) text.now kind opening os result }
+    ensures clean { ListClean (rule look.entry.texts look.entry.code.now) text.now around.now depth
+        (list_at kind depth (drop at text.now)) result }
+    ensures first { ListFirst (rule look.entry.texts look.entry.code.now) text.now around.now depth
+        (record { kind = kind; opening = opening; start = at }) result }
     ensures closes { (b : Kind) → kind ≡ Some b
         → IfOk result (λ stop. (list_at kind depth (drop at text.now)).1 ≡ close_of text.now (Ok stop)) }
     ensures within { IfOk result (λ stop. (at ≤ stop.to) × (stop.to ≤ length text.now)) }
     ensures place { IfErr result (λ fault. IsFaultHere (drop fault.at text.now) fault.wrong) }
-    ensures breaks { (code : Code)
-        → IfErr result (λ fault. code_of fault.wrong ≡ Some code → (list_at kind depth (drop at text.now)).1 ≡ broken code) }
+    ensures breaks { ListBreaks (list_at kind depth (drop at text.now)) result }
 {
     block_laws();
     spelling();

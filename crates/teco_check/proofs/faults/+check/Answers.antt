@@ -26,14 +26,14 @@ use Rattle.teco_check.proofs.Walked.{found_at, iter_faulty, iter_clean, cond_fau
 use Rattle.teco_check.proofs.faults.+check.Goals as goal
 
 pub check_conditional-returns-in_err-stop-clause-clean : goal.check_conditional-returns-in_err-stop-clause-clean
-check_conditional-returns-in_err-stop-clause-clean t c lists test k are =
+check_conditional-returns-in_err-stop-clause-clean t c test lists k are =
     let text = c.args.text.now in
     let p = err_from_is_err_and c.from_residual.result c.from_residual.ensures.1 in
     cond_faulty (held c.args.look.code.now) (may_hold c.args.look.texts c.args.look.code.now) lists k c.args.depth test (list_at (Some Then) (suc c.args.depth) (drop c.args.at text)) (deeper (held c.args.look.code.now) (may_hold c.args.look.texts c.args.look.code.now) lists (Some Then) c.args.depth (drop c.args.at text) false (c.in_err-stop.ensures.clean lists are))
     ∙ sym (ap (λ (r : Result ℕ Fault). rest_clean (held c.args.look.code.now) (may_hold c.args.look.texts c.args.look.code.now) lists text k c.args.depth r) p.1)
 
 pub check_conditional-returns-in_err-end-clause-clean : goal.check_conditional-returns-in_err-end-clause-clean
-check_conditional-returns-in_err-end-clause-clean t c lists test k are =
+check_conditional-returns-in_err-end-clause-clean t c test lists k are =
     let text = c.args.text.now in
     let stop = c.in_ok-stop.stop in
     let p = err_from_is_err_and c.from_residual-in_err-end.result c.from_residual-in_err-end.ensures.1 in
@@ -43,7 +43,7 @@ check_conditional-returns-in_err-end-clause-clean t c lists test k are =
     ∙ sym (ap (λ (r : Result ℕ Fault). rest_clean (held c.args.look.code.now) (may_hold c.args.look.texts c.args.look.code.now) lists text k c.args.depth r) p.1)
 
 pub check_conditional-returns-then-stop-clause-clean : goal.check_conditional-returns-then-stop-clause-clean
-check_conditional-returns-then-stop-clause-clean t c lists test k are =
+check_conditional-returns-then-stop-clause-clean t c test lists k are =
     let text = c.args.text.now in
     let d = c.args.depth in
     let stop = c.in_ok-stop.stop in
@@ -55,7 +55,7 @@ check_conditional-returns-then-stop-clause-clean t c lists test k are =
     (closes_deeper (Some Else) d (drop stop.to text) (closed end.divided (drop end.to text)) (c.in_ok-end.ensures.closes Else refl))
 
 pub check_conditional-returns-clause-clean : goal.check_conditional-returns-clause-clean
-check_conditional-returns-clause-clean t c lists test k are =
+check_conditional-returns-clause-clean t c test lists k are =
     let text = c.args.text.now in
     let d = c.args.depth in
     let stop = c.in_ok-stop.stop in
@@ -112,11 +112,11 @@ check_list-returns-in_err-next-in-None-clause-clean t c lists are =
     let deep = opens c.block_laws.ensures text c.args.around.now c.args.depth c.args.at c.args.kind lists lt are in
     sym (c.loop-code.invariant.clean all deep)
     ∙ ap (λ (l : Listed). is_clean (held c.args.look.code.now) (may_hold c.args.look.texts c.args.look.code.now) all l.0) (found_at c.block_laws.ensures c.args.kind c.args.depth (drop c.loop-code.next text) (found (meaning_in text k) (drop k.span.to text)) c.in-Token.ensures.read)
-    ∙ c.in_err-next-in-None.ensures.clean all k.modifiers c.args.kind deep
+    ∙ c.in_err-next-in-None.ensures.clean k.modifiers all c.args.kind deep
     ∙ sym (ap (λ r. is_ok r) p.1)
 
 pub check_node-returns-then-depth-eq-BLOCK_LIMIT-clause-clean : goal.check_node-returns-then-depth-eq-BLOCK_LIMIT-clause-clean
-check_node-returns-then-depth-eq-BLOCK_LIMIT-clause-clean t c lists m k are =
+check_node-returns-then-depth-eq-BLOCK_LIMIT-clause-clean t c m lists k are =
     let text = c.args.text.now in
     let d = c.args.depth in
     let bs = drop c.args.token.span.to text in
@@ -124,7 +124,7 @@ check_node-returns-then-depth-eq-BLOCK_LIMIT-clause-clean t c lists m k are =
     ap (λ (i : Instruction). is_clean (held c.args.look.code.now) (may_hold c.args.look.texts c.args.look.code.now) lists (at_instruction list_at i m bs k d).0) it ∙ iterate_deep (held c.args.look.code.now) (may_hold c.args.look.texts c.args.look.code.now) lists k d m bs c.if-depth-eq-BLOCK_LIMIT.true
 
 pub check_node-returns-in_err-stop-in-Mark-clause-clean : goal.check_node-returns-in_err-stop-in-Mark-clause-clean
-check_node-returns-in_err-stop-in-Mark-clause-clean t c lists m k are =
+check_node-returns-in_err-stop-in-Mark-clause-clean t c m lists k are =
     let text = c.args.text.now in
     let d = c.args.depth in
     let bs = drop c.args.token.span.to text in
@@ -136,14 +136,14 @@ check_node-returns-in_err-stop-in-Mark-clause-clean t c lists m k are =
     ∙ sym (ap (λ (r : Result ℕ Fault). rest_clean (held c.args.look.code.now) (may_hold c.args.look.texts c.args.look.code.now) lists text k d r) p.1)
 
 pub check_node-returns-then-depth-eq-BLOCK_LIMIT-2-clause-clean : goal.check_node-returns-then-depth-eq-BLOCK_LIMIT-2-clause-clean
-check_node-returns-then-depth-eq-BLOCK_LIMIT-2-clause-clean t c lists m k are =
+check_node-returns-then-depth-eq-BLOCK_LIMIT-2-clause-clean t c m lists k are =
     let text = c.args.text.now in
     let d = c.args.depth in
     let bs = drop c.args.token.span.to text in
     ap (λ (x : TokenKind). is_clean (held c.args.look.code.now) (may_hold c.args.look.texts c.args.look.code.now) lists (at_instruction list_at (instruction_in text x) m bs k d).0) c.in-Test.is ∙ decide_deep (held c.args.look.code.now) (may_hold c.args.look.texts c.args.look.code.now) lists k d m bs c.in-Test.field-0 c.if-depth-eq-BLOCK_LIMIT-2.true
 
 pub check_node-returns-in_ok-stop-in-Mark-clause-clean : goal.check_node-returns-in_ok-stop-in-Mark-clause-clean
-check_node-returns-in_ok-stop-in-Mark-clause-clean t c lists m k are =
+check_node-returns-in_ok-stop-in-Mark-clause-clean t c m lists k are =
     let text = c.args.text.now in
     let d = c.args.depth in
     let bs = drop c.args.token.span.to text in
@@ -164,7 +164,7 @@ check_node-returns-else-depth-eq-BLOCK_LIMIT-2-clause-closes t c m k =
     (c.check_conditional.ensures.closes c.in-Test.field-0 k)
 
 pub check_node-returns-in-Item-clause-clean : goal.check_node-returns-in-Item-clause-clean
-check_node-returns-in-Item-clause-clean t c lists m k are =
+check_node-returns-in-Item-clause-clean t c m lists k are =
     let text = c.args.text.now in
     let d = c.args.depth in
     let bs = drop c.args.token.span.to text in
@@ -172,14 +172,14 @@ check_node-returns-in-Item-clause-clean t c lists m k are =
     ∙ item_rest (held c.args.look.code.now) (may_hold c.args.look.texts c.args.look.code.now) lists k d m text c.args.token.span.to (item_in text c.in-Item.item) c.check_item.result c.check_item.ensures.place (ap (λ (x : SpannedItem). is_fine (held c.args.look.code.now) (may_hold c.args.look.texts c.args.look.code.now) lists (item_in text x)) (sym c.in-Item.item-is) ∙ c.check_item.ensures.fine lists are)
 
 pub check_node-returns-in-Tag-clause-clean : goal.check_node-returns-in-Tag-clause-clean
-check_node-returns-in-Tag-clause-clean t c lists m k are =
+check_node-returns-in-Tag-clause-clean t c m lists k are =
     let text = c.args.text.now in
     let d = c.args.depth in
     let bs = drop c.args.token.span.to text in
     ap (λ (x : TokenKind). is_clean (held c.args.look.code.now) (may_hold c.args.look.texts c.args.look.code.now) lists (at_instruction list_at (instruction_in text x) m bs k d).0) c.in-Tag.is ∙ tag_clean (held c.args.look.code.now) (may_hold c.args.look.texts c.args.look.code.now) lists k d m bs (bytes_in text c.in-Tag.field-0)
 
 pub check_node-returns-in-Escape-clause-clean : goal.check_node-returns-in-Escape-clause-clean
-check_node-returns-in-Escape-clause-clean t c lists m k are =
+check_node-returns-in-Escape-clause-clean t c m lists k are =
     let text = c.args.text.now in
     let d = c.args.depth in
     let bs = drop c.args.token.span.to text in
@@ -201,7 +201,7 @@ check_node-returns-in-Item-clause-place t c =
     (ap (λ (x : SpannedItem). step (item_in text x)) c.in-Item.item-is ∙ sym (ap (λ (x : TokenKind). instruction_in text x) c.in-Item.is)) c.check_item.ensures.suits)
 
 pub check_conditional-returns-in_err-stop-clause-breaks : goal.check_conditional-returns-in_err-stop-clause-breaks
-check_conditional-returns-in_err-stop-clause-breaks t c code test k =
+check_conditional-returns-in_err-stop-clause-breaks t c test code k =
     let text = c.args.text.now in
     let d = c.args.depth in
     let p = err_from_is_err_and c.from_residual.result c.from_residual.ensures.1 in
@@ -209,7 +209,7 @@ check_conditional-returns-in_err-stop-clause-breaks t c code test k =
     (λ is. cond_breaks k d code test (list_at (Some Then) (suc d) (drop c.args.at text)) (closes_deeper (Some Then) d (drop c.args.at text) (broken code) (c.in_err-stop.ensures.breaks code is)))
 
 pub check_conditional-returns-in_err-end-clause-breaks : goal.check_conditional-returns-in_err-end-clause-breaks
-check_conditional-returns-in_err-end-clause-breaks t c code test k =
+check_conditional-returns-in_err-end-clause-breaks t c test code k =
     let text = c.args.text.now in
     let d = c.args.depth in
     let stop = c.in_ok-stop.stop in
@@ -237,10 +237,10 @@ check_list-returns-in_err-next-in-None-clause-breaks t c code =
     rw (p.1, p.2)
     (λ is. sym c.loop-code.invariant.closes
     ∙ ap (λ (l : Listed). l.1) (found_at c.block_laws.ensures c.args.kind c.args.depth (drop c.loop-code.next text) (found (meaning_in text k) (drop k.span.to text)) c.in-Token.ensures.read)
-    ∙ c.in_err-next-in-None.ensures.breaks code k.modifiers c.args.kind is)
+    ∙ c.in_err-next-in-None.ensures.breaks k.modifiers code c.args.kind is)
 
 pub check_node-returns-in_err-stop-in-Mark-clause-breaks : goal.check_node-returns-in_err-stop-in-Mark-clause-breaks
-check_node-returns-in_err-stop-in-Mark-clause-breaks t c code m k =
+check_node-returns-in_err-stop-in-Mark-clause-breaks t c m code k =
     let text = c.args.text.now in
     let d = c.args.depth in
     let bs = drop c.args.token.span.to text in
@@ -252,13 +252,13 @@ check_node-returns-in_err-stop-in-Mark-clause-breaks t c code m k =
     ∙ iter_breaks k d code (list_at (Some Iter) (suc d) bs) (closes_deeper (Some Iter) d bs (broken code) (c.in_err-stop-in-Mark.ensures.breaks code is)))
 
 pub check_node-returns-else-depth-eq-BLOCK_LIMIT-2-clause-breaks : goal.check_node-returns-else-depth-eq-BLOCK_LIMIT-2-clause-breaks
-check_node-returns-else-depth-eq-BLOCK_LIMIT-2-clause-breaks t c code m k =
+check_node-returns-else-depth-eq-BLOCK_LIMIT-2-clause-breaks t c m code k =
     let text = c.args.text.now in
     let d = c.args.depth in
     let bs = drop c.args.token.span.to text in
     subst (λ (x : Close). IfErr c.check_conditional.result (λ fault. code_of fault.wrong ≡ Some code → x ≡ broken code))
     (sym (ap (λ (x : TokenKind). (at_instruction list_at (instruction_in text x) m bs k d).1) c.in-Test.is ∙ ap (λ (l : Listed). l.1) (decide_at c.in-Test.field-0 m bs k d c.if-depth-eq-BLOCK_LIMIT-2.false)))
-    (c.check_conditional.ensures.breaks code c.in-Test.field-0 k)
+    (c.check_conditional.ensures.breaks c.in-Test.field-0 code k)
 
 pub check_list-returns-in-End-clause-first : goal.check_list-returns-in-End-clause-first
 check_list-returns-in-End-clause-first t c os long there =
