@@ -1,5 +1,5 @@
 -- Places of tokens.
-use Rattle.std.proofs.Common.{◌≡◌, ℕ, ◌≤◌, Bool, true, false, List, [], ◌∷◌, length, length-drop, drop, cond as choose, refl, sym, ap, ◌∙◌, arith}
+use Rattle.std.proofs.Common.{◌≡◌, ℕ, Bool, true, false, List, [], ◌∷◌, cond as choose, refl, ap, ◌∙◌}
 use Rattle.teco_core.specs.Ascii.{is_filler}
 use Rattle.teco_scan.specs.Scan.{scan, scan_here, after_fillers}
 

@@ -12,7 +12,7 @@ use Rattle.teco_scan.specs.declared.blocks.Kind.TheVariants.{Iter, Then, Else}
 use Rattle.teco_scan.specs.Breaks.{by_spelling, broken_so, first_break}
 use Rattle.teco_scan.specs.Scan.{Item, Instruction, Scanned, TokenMeaning, found, ended, fault, scan, after_fillers}
 use Rattle.teco_scan.specs.Scan as token
-use Rattle.teco_scan.specs.Walk.{Break, unreadable, stray, unended, too_deep, OpenList, Rule, Walker, place, own_list, after_item, in_block, out_of, at_mark, at_end, at_instruction, at_scan, walk}
+use Rattle.teco_scan.specs.Walk.{Break, unreadable, stray, unended, too_deep, OpenList, Rule, Walker, place, own_list, after_item, out_of, at_mark, at_end, at_instruction, at_scan, walk}
 use Rattle.teco_scan.proofs.TokenShortens.{scan_short}
 use Rattle.teco_scan.proofs.WalkUnrolls.{unrolls}
 use Rattle.teco_check.specs.declared.faults.Fault.{Fault}

@@ -1,7 +1,4 @@
-use Rattle.std.proofs.Common.{◌≡◌, ◌≢◌, IfSome, IsSomeAnd, Option, Some, None, refl}
-use Rattle.teco_scan.specs.declared.breaks.ListFault.{ListFault}
 use Rattle.teco_scan.specs.Breaks.{first_break}
-use Rattle.teco_check.specs.declared.faults.Fault.{Fault}
 use Rattle.teco_check.specs.Walk.{first_within}
 use Rattle.teco_check.proofs.Together.{text_beside, one_code, one_place, told_same, told_later, told_none}
 use Rattle.teco_check.proofs.laws.spelling_laws.Goals as goal
