@@ -12,7 +12,7 @@ length-lent input from count =
     length-take-le count (drop from input ++ replicate count 0) (omega (arith, length-append (drop from input) (replicate count 0), length-replicate {A = ℕ} count 0))
 
 -- within the input no byte is made up
-lent_within : (input : List ℕ) (from count : ℕ) → from + count ≤ length input → lent input from count ≡ take count (drop from input)
+pub lent_within : (input : List ℕ) (from count : ℕ) → from + count ≤ length input → lent input from count ≡ take count (drop from input)
 lent_within input from count within = take-append-le count (drop from input) (replicate count 0) (omega (arith, length-drop from input))
 
 -- the next page, which stands in the input at the place

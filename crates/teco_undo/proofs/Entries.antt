@@ -2,50 +2,10 @@
 use Rattle.std.proofs.Common.{◌≡◌, ℕ, ◌≤◌, List, [], ◌∷◌, refl, sym, ◌∙◌, ap, subst, arith}
 use Rattle.teco_store.specs.State.{Body, IsSound}
 use Rattle.teco_store.specs.Turn.{Turn, Note, Fits, body_after, turn_after}
+use Rattle.teco_store.proofs.Sound.{sound_more, sound_within}
 use Rattle.teco_undo.specs.Entry.{body_back, notes_back, body_forth, notes_forth, FitsBack, FitsForth}
 use Rattle.teco_undo.specs.RecordLaws.{BackThenForth, ForthThenBack}
 use Rattle.teco_undo.proofs.Turns.{fits_after, body_again, turn_again}
-
--- more capacity and more output stored
-pub sound_more : (capacity capacity' top top' : ℕ) (b : Body) → capacity ≤ capacity' → top ≤ top' → IsSound capacity top b → IsSound capacity' top' b
-sound_more capacity capacity' top top' b r m s =
-    let x = s.room in let y = s.stored in
-    record {
-      pointer = s.pointer;
-      text = s.text;
-      room = omega arith;
-      registers = s.registers;
-      numbers = s.numbers;
-      all = s.all;
-      pushed = s.pushed;
-      pushed_numbers = s.pushed_numbers;
-      few = s.few;
-      place = s.place;
-      input = s.input;
-      stored = omega arith;
-      output = s.output;
-      last_search = s.last_search;
-    }
-
--- with another number of stored bytes
-pub sound_within : (capacity top low : ℕ) (b : Body) → b.output ≤ low → IsSound capacity top b → IsSound capacity low b
-sound_within capacity top low b h s =
-    record {
-      pointer = s.pointer;
-      text = s.text;
-      room = s.room;
-      registers = s.registers;
-      numbers = s.numbers;
-      all = s.all;
-      pushed = s.pushed;
-      pushed_numbers = s.pushed_numbers;
-      few = s.few;
-      place = s.place;
-      input = s.input;
-      stored = h;
-      output = s.output;
-      last_search = s.last_search;
-    }
 
 pub fits_more : (capacity capacity' top top' : ℕ) (t : Turn) (b : Body) → capacity ≤ capacity' → top ≤ top' → Fits capacity top t b → Fits capacity' top' t b
 fits_more capacity capacity' top top' t b r m f = (f.0, sound_more capacity capacity' top top' (body_after t b) r m f.1)

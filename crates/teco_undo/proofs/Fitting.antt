@@ -8,8 +8,8 @@ use Rattle.teco_core.specs.Register.{Content, blank}
 use Rattle.teco_core.specs.declared.limits.TheConstants.{TEXT_LIMIT}
 use Rattle.teco_store.specs.State.{Body, Full, IsSound, replaced, spliced, pointer_after}
 use Rattle.teco_store.specs.Turn.{PopInto, Splice, FitsFull, lent, top_of}
-use Rattle.teco_undo.proofs.Entries.{sound_more, sound_within}
-use Rattle.teco_undo.proofs.Loans.{length-lent}
+use Rattle.teco_store.proofs.Loans.{length-lent}
+use Rattle.teco_store.proofs.Sound.{sound_more, sound_within}
 use Rattle.teco_undo.proofs.Turns.{length-replaced}
 
 -- where the pointer comes to stand

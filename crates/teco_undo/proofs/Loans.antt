@@ -1,23 +1,16 @@
 -- Parts of the input that a text is, and that are lent to it.
-use Rattle.std.proofs.Common.{◌≡◌, ◌∙◌, ℕ, ◌+◌, ◌≤◌, List, ◌++◌, length, take, drop, replicate, ap, refl, sym, subst, arith, append_assoc, length-append, length-drop}
-use Rattle.std.proofs.lemmas.List.{length-take-le, length-replicate, take-append-le, take-append-drop, drop-append-le, take_all, take_at}
+use Rattle.std.proofs.Common.{◌≡◌, ◌∙◌, ℕ, ◌+◌, ◌≤◌, List, ◌++◌, length, take, drop, ap, refl, sym, subst, arith, append_assoc, length-append, length-drop}
+use Rattle.std.proofs.lemmas.List.{take-append-drop, drop-append-le, take_all, take_at}
+use Rattle.teco_store.proofs.Loans.{length-lent, lent_within}
 use Rattle.teco_store.specs.Page.{page, form_feed_if, IsAsRead}
 use Rattle.teco_store.specs.PageSpan.{IsPageSpan}
 use Rattle.teco_store.specs.State.{Body}
 use Rattle.teco_store.specs.Turn.{lent, IsLent}
 use Rattle.teco_store.specs.declared.pages.PageSpan.{PageSpan}
 
-pub length-lent : (input : List ℕ) (from count : ℕ) → length (lent input from count) ≡ count
-length-lent input from count =
-    length-take-le count (drop from input ++ replicate count 0) (omega (arith, length-append (drop from input) (replicate count 0), length-replicate {A = ℕ} count 0))
-
 -- such a text is all of itself
 pub lent_text : (text input : List ℕ) (from count : ℕ) → text ≡ lent input from count → lent input from count ≡ take count text
 lent_text text input from count is = sym is ∙ sym (take_all count text (omega (arith, ap length is, length-lent input from count)))
-
--- within the input no byte is made up
-lent_within : (input : List ℕ) (from count : ℕ) → from + count ≤ length input → lent input from count ≡ take count (drop from input)
-lent_within input from count within = take-append-le count (drop from input) (replicate count 0) (omega (arith, length-drop from input))
 
 -- a text that stands in what was read
 pub read_is_lent : (input read text flag : List ℕ) (place at : ℕ) → read ≡ take place input → (at ≤ length read) × (drop at read ≡ text ++ flag) → IsLent text input at (length text)

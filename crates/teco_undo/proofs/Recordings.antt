@@ -9,7 +9,8 @@ use Rattle.teco_store.specs.Turn.{Turn, Note, Splice, Lend, Point, Number, Text,
 use Rattle.teco_undo.specs.Entry.{body_back, FitsBack, since, before, of_step, weight, load_back}
 use Rattle.teco_undo.specs.Follows.{Recording, AreMarked, HasCome, Follows, FollowsAfterChanges, StillFollows, noting, with_note}
 use Rattle.teco_undo.proofs.Turns.{fits_after, body_again, content_put}
-use Rattle.teco_undo.proofs.Entries.{fits_more, sound_more, sound_within, shown_back_all, shown_fits}
+use Rattle.teco_store.proofs.Sound.{sound_more, sound_within}
+use Rattle.teco_undo.proofs.Entries.{fits_more, shown_back_all, shown_fits}
 
 pub body_back-append : (xs ys : List Note) (b : Body) → body_back (xs ++ ys) b ≡ body_back xs (body_back ys b)
 body_back-append [] ys b = refl

@@ -3,7 +3,8 @@ use Rattle.std.proofs.Common.{◌≡◌, ℕ, ◌+◌, ◌<◌, ◌≤◌, List,
 use Rattle.std.proofs.lemmas.List.{append-nil, drop_all, take_at, drop_at, length-take-le, take-append-drop, drop-drop, length-set, get_or-set_same, set-set, set-get_or}
 use Rattle.teco_core.specs.Register.{Content, blank, content, with_content, with_number, with_text, numbered, texted}
 use Rattle.teco_store.specs.State.{Body, IsSound, replaced}
-use Rattle.teco_undo.proofs.Loans.{length-lent, lent_text}
+use Rattle.teco_store.proofs.Loans.{length-lent}
+use Rattle.teco_undo.proofs.Loans.{lent_text}
 use Rattle.teco_store.specs.Turn.{Turn, Splice, Lend, Point, Number, Text, Push, TakeOff, PopInto, PutBack, Pages, Search, Found, Done, Mode, lent, top_of, body_after, turn_after, Stands, Fits}
 
 -- the three parts of a list

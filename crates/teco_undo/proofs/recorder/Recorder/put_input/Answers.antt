@@ -5,7 +5,8 @@ use Rattle.teco_undo.specs.declared.held.Held.TheVariants.{Input}
 use Rattle.teco_store.specs.State.{Full, IsSound}
 use Rattle.teco_store.specs.Turn.{Splice, full_after, lent}
 use Rattle.teco_undo.proofs.Fitting.{input_fits_seen}
-use Rattle.teco_undo.proofs.Loans.{held_is_lent, length-lent}
+use Rattle.teco_store.proofs.Loans.{length-lent}
+use Rattle.teco_undo.proofs.Loans.{held_is_lent}
 use Rattle.teco_undo.proofs.Recordings.{goes_noted}
 use Rattle.teco_undo.proofs.recorder.Recorder.put_input.Goals as goal
 
