@@ -5,19 +5,19 @@ use std::process::Abort;
 pub(crate) mod bytes;
 mod calls;
 pub(crate) mod commands;
+mod driver;
 pub(crate) mod exec;
 mod gap;
-pub(crate) mod keep;
+mod io;
 mod laws;
 mod line_commands;
-mod program;
 pub(crate) mod rows;
 pub(crate) mod scan;
 pub(crate) mod search;
 pub(crate) mod session;
 pub(crate) mod step;
 pub(crate) mod store;
-mod terminal;
+pub(crate) mod tecol;
 
 /// Ends the test where what is said of a text does not hold.
 pub(crate) fn assert_of(rt: &impl Abort, text: &str, holds: bool) {

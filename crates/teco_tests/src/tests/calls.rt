@@ -1,6 +1,6 @@
 //! How each crate is called: the examples of the crates' pages. A call that was refused memory is made a second time.
 use crate::tests::bytes::{are, are_both, are_there, is, joined, wide_screen};
-use crate::tests::program::words_of;
+use crate::tests::driver::words_of;
 use std::alloc::Global;
 use std::test::*;
 use teco_check::{REGISTERS, fault_of};

@@ -1,8 +1,8 @@
 //! Of teco_driver: its parts, and runs of the whole program over files in memory.
 use super::bytes::{Screen, are_there, first_of, is, is_typed, joined, screen_of, wide_screen};
-use super::keep::runs;
 use super::line_commands::{checked, explained, shown, sources};
 use super::rows::{Cells, Rule, all_hold, cells_of, halves_at, number_or};
+use super::tecol::runs;
 use std::alloc::Global;
 use std::cell::Cell;
 use std::io;
