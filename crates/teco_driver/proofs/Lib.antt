@@ -1,4 +1,5 @@
 pub mod Checks
+pub mod CheckedRuns
 pub mod Runs
 pub mod Showing
 pub mod Streamed

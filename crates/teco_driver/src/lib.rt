@@ -1,6 +1,7 @@
 //! A run of the program, from the words of its command line to its status, over any files and streams.
 #![tactic(auto)]
 
+mod checked;
 mod checking;
 mod concluding;
 mod editing;
@@ -14,6 +15,7 @@ mod several;
 mod sources;
 mod verdict;
 
+pub use checked::checked_laws;
 pub use concluding::{NO_MEMORY, conclude, no_memory};
 pub use giving::{Feed, edit_given, feed_of};
 pub use host::Host;

@@ -1,43 +1,32 @@
 -- Commands, cut at pairs of ESC.
-use Rattle.std.proofs.Common.{◌≡◌, ℕ, ◌+◌, ◌-◌, ◌<◌, ◌≤◌, Bool, true, false, ◌&&◌, ◌||◌, List, [], ◌∷◌, ◌++◌, length, take, drop, get_or, refl, sym, ap, ◌∙◌, arith, add-one, drop-cons, length-drop}
-use Rattle.std.specs.Prelude.{◌==◌}
+use Rattle.std.proofs.Common.{◌≡◌, ℕ, ◌+◌, ◌-◌, ◌≤◌, Bool, true, false, ◌||◌, List, [], ◌∷◌, ◌++◌, length, take, drop, refl, sym, ap, subst, ◌∙◌, arith, length-drop}
 use Rattle.std.specs.List.{list_any}
-use Rattle.std.proofs.lemmas.List.{drop_all, take_all, take_more, get_or-drop}
-use Rattle.teco_core.specs.declared.ascii.TheConstants.{ESC}
-use Rattle.teco_lint.specs.Strings.{ends_in_escape, strings_from}
-
-pub ends-more : (xs : List ℕ) (b : ℕ) → ends_in_escape (xs ++ b ∷ []) ≡ (b == ESC)
-ends-more [] b = refl
-ends-more (x ∷ []) b = refl
-ends-more (x ∷ y ∷ xs) b = ends-more (y ∷ xs) b
+use Rattle.std.proofs.lemmas.List.{drop-drop, take_all, take_rest}
+use Rattle.teco_scan.specs.Stream.{rest_of, texts_of}
+use Rattle.teco_scan.proofs.Streams.{EndsAt, rest_of-all, rest_of-cut, texts_of-cut}
+use Rattle.teco_lint.specs.Strings.{strings_of}
 
 -- a pair ends a string
-pub one_cut : (held : List ℕ) (i : ℕ) (xs : List ℕ) → i < length xs → (get_or xs i 0 == ESC && ends_in_escape held) ≡ true
-    → strings_from held (drop i xs) ≡ held ∷ strings_from [] (drop (i + 1) xs)
-unfolding strings_from
-one_cut held i xs h e = rw (add-one, drop-cons xs i 0, e) refl
+one_cut : (bs : List ℕ) (at : ℕ) → EndsAt at bs → strings_of bs ≡ take at bs ∷ strings_of (drop (at + 1) bs)
+one_cut bs at e = ap (λ (texts : List (List ℕ)). texts ++ rest_of bs ∷ []) (texts_of-cut bs at e.0 e.1 e.2)
+    ∙ ap (λ (rest : List ℕ). take at bs ∷ (texts_of (drop (at + 1) bs) ++ rest ∷ [])) (rest_of-cut bs at e.0 e.1 e.2)
 
--- any other byte is held
-pub one_held : (held : List ℕ) (i : ℕ) (xs : List ℕ) → i < length xs → (get_or xs i 0 == ESC && ends_in_escape held) ≡ false
-    → strings_from held (drop i xs) ≡ strings_from (held ++ get_or xs i 0 ∷ []) (drop (i + 1) xs)
-unfolding strings_from
-one_held held i xs h e = rw (add-one, drop-cons xs i 0, e) refl
+-- the same of commands from a place on
+pub one_cut-from : (xs : List ℕ) (from at : ℕ) → EndsAt at (take (length xs - from) (drop from xs))
+    → strings_of (drop from xs) ≡ take (from + at - from) (drop from xs) ∷ strings_of (drop (from + at + 1) xs)
+one_cut-from xs from at e =
+    let found : EndsAt at (drop from xs) = subst (EndsAt at) (take_rest xs from) e in
+    let n : at ≡ from + at - from = omega arith in
+    let place : from + (at + 1) ≡ from + at + 1 = omega arith in
+    let later : drop (at + 1) (drop from xs) ≡ drop (from + at + 1) xs = drop-drop (at + 1) from xs ∙ ap (λ (k : ℕ). drop k xs) place in
+    one_cut (drop from xs) at found ∙ ap (λ (k : ℕ). take k (drop from xs) ∷ strings_of (drop (at + 1) (drop from xs))) n
+    ∙ ap (λ (rest : List ℕ). take (from + at - from) (drop from xs) ∷ strings_of rest) later
 
--- what is held at the end is a string
-pub all_held : (held : List ℕ) (i : ℕ) (xs : List ℕ) → length xs ≤ i → strings_from held (drop i xs) ≡ held ∷ []
-unfolding strings_from
-all_held held i xs h = rw (drop_all i xs h) refl
-
-pub more_held : (from i : ℕ) (xs : List ℕ) → from ≤ i → i < length xs
-    → take (i - from) (drop from xs) ++ get_or xs i 0 ∷ [] ≡ take (i + 1 - from) (drop from xs)
-more_held from i xs h l =
-    let n : i + 1 - from ≡ i - from + 1 = omega arith in
-    let k : from + (i - from) ≡ i = omega arith in
-    let d : length (drop from xs) ≡ length xs - from = length-drop from xs in
-    let s : i - from < length (drop from xs) = omega arith in
-    let e : get_or (drop from xs) (i - from) 0 ≡ get_or xs i 0 = get_or-drop from xs (i - from) 0 ∙ ap (λ (j : ℕ). get_or xs j 0) k in
-    sym (ap (λ (j : ℕ). take j (drop from xs)) n ∙ take_more (drop from xs) (i - from) 0 s
-    ∙ ap (λ (b : ℕ). take (i - from) (drop from xs) ++ b ∷ []) e)
+-- where no pair comes, all is one string
+pub none_cut-from : (xs : List ℕ) (from : ℕ) → texts_of (take (length xs - from) (drop from xs)) ≡ [] → strings_of (drop from xs) ≡ drop from xs ∷ []
+none_cut-from xs from e =
+    let none : texts_of (drop from xs) ≡ [] = sym (ap texts_of (take_rest xs from)) ∙ e in
+    ap (λ (texts : List (List ℕ)). texts ++ rest_of (drop from xs) ∷ []) none ∙ ap (λ (rest : List ℕ). rest ∷ []) (rest_of-all (drop from xs) none)
 
 pub whole_held : (from i : ℕ) (xs : List ℕ) → length xs ≤ i → take (i - from) (drop from xs) ≡ drop from xs
 whole_held from i xs h =

@@ -1,4 +1,5 @@
 pub mod Cuts
 pub mod Misspelt
 pub mod Noted
+pub mod Rights
 pub mod Told

@@ -1,44 +1,18 @@
 -- Commands as command strings, and whether one of them has a fault.
-use Rattle.std.specs.Prelude.{◌≡◌, ◌+◌, ℕ, length, Bool, false, ◌&&◌, ◌||◌, List, [], ◌∷◌, ◌++◌, drop, nat_le, is_some, ◌==◌, if◌then◌else◌}
-use Rattle.std.specs.List.{list_any, prefix_len}
-use Rattle.teco_core.specs.Ascii.{is_digit}
-use Rattle.teco_core.specs.declared.ascii.TheConstants.{ESC}
-use Rattle.teco_scan.specs.Scan.{after_fillers}
+use Rattle.std.specs.Prelude.{◌≡◌, ◌+◌, ℕ, length, Bool, false, not, ◌&&◌, List, [], ◌∷◌, ◌++◌, is_some, if◌then◌else◌}
+use Rattle.std.specs.List.{list_any}
+use Rattle.teco_scan.specs.Stream.{asks_of, ends_in_escape, is_run, rest_of, texts_of}
 use Rattle.teco_check.specs.Walk.{first_of}
 use Rattle.teco_lint.specs.declared.remarks.Remark.{Remark}
 use Rattle.teco_lint.specs.Told.{TellsFirst}
 
-abbrev pub ends_in_escape : List ℕ → Bool
-ends_in_escape [] = false
-ends_in_escape (b ∷ []) = b == ESC
-ends_in_escape (b ∷ c ∷ bs) = ends_in_escape (c ∷ bs)
-
--- Commands are cut at the leftmost pair of ESC, again and again. A string includes the first ESC of its pair; `held` is what came
--- since the pair before. What comes after the last pair is a string too.
-unfoldable pub strings_from : List ℕ → List ℕ → List (List ℕ)
-strings_from held [] = held ∷ []
-strings_from held (b ∷ bs) = if b == ESC && ends_in_escape held then held ∷ strings_from [] bs
-    else strings_from (held ++ b ∷ []) bs
-
+-- The texts that a run of the commands reads, and then what comes after the last pair of ESC: that is a string too.
 abbrev pub strings_of : List ℕ → List (List ℕ)
-strings_of commands = strings_from [] commands
+strings_of commands = texts_of commands ++ rest_of commands ∷ []
 
--- an ESC after fillers, and nothing more
-abbrev pub is_escape : List ℕ → Bool
-is_escape (b ∷ []) = b == ESC
-is_escape bs = false
-
--- a brace or a tilde, and an ESC after fillers
-abbrev pub asks_history : List ℕ → Bool
-asks_history [] = false
-asks_history (b ∷ bs) = (b == 123 || b == 125 || b == 126) && is_escape (after_fillers bs)
-
-abbrev pub after_digits : List ℕ → List ℕ
-after_digits bs = drop (prefix_len is_digit bs) bs
-
--- A string of at most nine digits and a brace or a tilde asks for an undo, a redo or a rewind, and is no text.
+-- A string that asks a run for an undo, a redo or a rewind is not checked. Without the first ESC of its pair it asks nothing yet.
 abbrev pub is_request : List ℕ → Bool
-is_request string = nat_le (prefix_len is_digit (after_fillers string)) 9 && asks_history (after_digits (after_fillers string))
+is_request string = ends_in_escape string && not (is_run (asks_of string))
 
 -- The string is a text with a fault, where these registers hold code.
 abbrev pub is_faulty_string : List Bool → List ℕ → Bool

@@ -2,16 +2,17 @@
 ghost use Rattle.std.specs.Prelude.{◌≡◌, false, Bool, IfOk};
 ghost use Rattle.teco_lint.specs.Told.{IsTold, TellsFirst};
 ghost use Rattle.teco_lint.specs.Calls.{AreCalled};
+ghost use Rattle.teco_lint.specs.Right.{AreRight, IsRightString};
 ghost use Rattle.teco_lint.specs.Strings.{AreTold, is_faulty, is_faulty_string, is_request, strings_of};
 
 use crate::calling::{RegisterUses, registers_in};
 use crate::cutting::string_end;
-use crate::requests::{ends_in_escape, is_request};
+use crate::requests::is_request;
 use crate::{Hint, Hinting, Remark, push_both, push_faults, push_hints, push_last_hints};
 use std::alloc::Global;
 use teco_check::{REGISTERS, fault_of};
 use teco_core::NoMemory;
-use teco_scan::filler_end;
+use teco_scan::{ends_in_escape, filler_end};
 
 /// What is told of commands.
 #[derive(Drop)]
@@ -34,6 +35,7 @@ fn check_string(
     from: usize,
 ) -> Result<bool, NoMemory>
     ensures found { IfOk result (λ faulty. faulty ≡ is_faulty_string registers.now.called string.now) }
+    ensures right { IfOk result (λ faulty. faulty ≡ false → IsRightString registers.now.called string.now) }
     ensures told { is_request string.now ≡ false → IfOk result (λ _. TellsFirst registers.now.called remarks.new.items from string.now) }
     ensures kept { (test : Remark → Bool) → IsTold test remarks.old.items → IfOk result (λ _. IsTold test remarks.new.items) }
 {
@@ -66,9 +68,11 @@ fn hint_on_rest(rest: &[u8]) -> Option<Hint> {
 
 /// Checks commands, each command string and what comes after the last, without running them.
 ///
-/// The code registers are those that the commands call. A string is faulty exactly where its first fault is found.
+/// The code registers are those that the commands call. A string is faulty exactly where its first fault is found. Without a faulty
+/// one no string of a run of the commands ends by ILL, IQN, IQC, UTC, BNI or TAG.
 pub fn check(alloc: Global, commands: &[u8]) -> Result<Advice, NoMemory>
     ensures found { IfOk result (λ advice. advice.is_faulty ≡ is_faulty advice.code commands.now) }
+    ensures right { IfOk result (λ advice. advice.is_faulty ≡ false → AreRight advice.code commands.now) }
     ensures code { IfOk result (λ advice. AreCalled advice.code commands.now) }
     ensures told { IfOk result (λ advice. AreTold advice.code advice.remarks.items 0 (strings_of commands.now)) }
 {

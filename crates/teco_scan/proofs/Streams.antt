@@ -1,7 +1,7 @@
 -- Lemmas on the cut of a stream.
 use Rattle.std.proofs.Common.{◌≡◌, ℕ, List, [], ◌∷◌, ◌++◌, true, false, ◌&&◌, ◌==◌, refl, sym, ap, ◌∙◌, append-nil, append_assoc, inl, inr, map, length, take, drop, get_or, take-append-drop, ◌+◌, ◌<◌, arith, length-append, ◌-◌, not, ◌||◌, Option, Some, None, subst, is_some}
-use Rattle.std.specs.List.{list_any}
-use Rattle.std.proofs.lemmas.Bool.{cases_Bool}
+use Rattle.std.specs.List.{AllByRecursion, list_any}
+use Rattle.std.proofs.lemmas.Bool.{and_parts, cases_Bool}
 use Rattle.std.proofs.lemmas.List.{drop_more, drop-drop, take_rest}
 use Rattle.teco_core.specs.declared.ascii.TheConstants.{ESC}
 use Rattle.teco_scan.specs.declared.stream.HistoryMove.{HistoryMove}
@@ -19,6 +19,18 @@ texts_from-pair held b bs e = rw e refl
 
 texts_from-on : (held : List ℕ) (b : ℕ) (bs : List ℕ) → (b == ESC && ends_in_escape held) ≡ false → texts_from held (b ∷ bs) ≡ texts_from (held ++ b ∷ []) bs
 texts_from-on held b bs e = rw e refl
+
+-- each text ends in an ESC
+pub texts_end : (held bs : List ℕ) → AllByRecursion (λ text. ends_in_escape text ≡ true) (texts_from held bs)
+texts_end held [] = tt
+texts_end held (b ∷ bs) = elim (cases_Bool (b == ESC && ends_in_escape held)) [
+  | inl t ↦
+      subst (λ (texts : List (List ℕ)). AllByRecursion (λ text. ends_in_escape text ≡ true) texts) (sym (texts_from-pair held b bs t))
+      ((and_parts (b == ESC) (ends_in_escape held) t).1, texts_end [] bs)
+  | inr f ↦
+      subst (λ (texts : List (List ℕ)). AllByRecursion (λ text. ends_in_escape text ≡ true) texts) (sym (texts_from-on held b bs f))
+      (texts_end (held ++ b ∷ []) bs)
+]
 
 -- bytes with no pair are held
 pub texts_from-held : (held us more : List ℕ) → texts_from held us ≡ [] → texts_from held (us ++ more) ≡ texts_from (held ++ us) more

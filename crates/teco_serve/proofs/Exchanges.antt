@@ -14,9 +14,10 @@ use Rattle.teco_session.specs.declared.request.Answer.TheVariants.{Ended, NotBeg
 use Rattle.teco_session.specs.declared.request.Request.{Request}
 use Rattle.teco_session.specs.declared.request.Request.TheVariants as request
 use Rattle.teco_serve.specs.Alarm.{IsSet}
-use Rattle.teco_serve.specs.Exchange.{Exchange, HasRung, MovesInHistory, Repeats, RunsAllowed, allowance, exchange_shown, exits, is_exit, is_run}
+use Rattle.teco_serve.specs.Exchange.{Exchange, HasRung, MovesInHistory, Repeats, RunsAllowed, allowance, exchange_shown, exits, is_exit}
 use Rattle.teco_serve.specs.Message.{lines_of, message, replies_shown, star}
-use Rattle.teco_serve.specs.Stream.Asks.{Run}
+use Rattle.teco_scan.specs.Stream.{is_run}
+use Rattle.teco_scan.specs.Stream.Asks.{Run}
 use Rattle.teco_serve.specs.declared.alarm.Bounds.{Bounds}
 use Rattle.teco_serve.proofs.Showing.{some-left, some-right}
 

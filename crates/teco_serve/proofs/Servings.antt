@@ -3,7 +3,7 @@ use Rattle.std.proofs.Common.{◌≡◌, ℕ, List, [], ◌∷◌, ◌++◌, map
 use Rattle.teco_session.specs.History.{History}
 use Rattle.teco_serve.specs.Message.{star}
 use Rattle.teco_serve.specs.Exchange.{Allowance, BreaksOff, Exchange, exchange_shown}
-use Rattle.teco_serve.specs.Stream.{Asks, asks_of, requests, texts_of}
+use Rattle.teco_scan.specs.Stream.{Asks, asks_of, requests, texts_of}
 use Rattle.teco_serve.specs.Serving.{AreFirstOf, Exchanges, Exits, GoOn, Shown, all_shown, asked_in, exchanges_shown, is_read_fault, is_read_out}
 use Rattle.teco_serve.specs.Held.{IsExchange, ExchangeEnds, HeldEnds, CutsOff}
 use Rattle.teco_serve.specs.Cut.{AsksFirst, value_of}

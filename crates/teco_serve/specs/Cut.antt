@@ -1,8 +1,8 @@
 -- What the splitter cuts off the bytes that it holds.
 use Rattle.std.specs.Prelude.{◌≡◌, ◌≤◌, ℕ, ◌+◌, List, [], ◌∷◌, ◌++◌, length, take, drop, Option, Some, None}
 use Rattle.teco_core.specs.declared.ascii.TheConstants.{ESC}
-use Rattle.teco_serve.specs.Stream.{Asks, texts_of, IsText, asks_of, requests}
-use Rattle.teco_serve.specs.Stream.Asks.{Run, Undo, Redo, Rewind}
+use Rattle.teco_scan.specs.Stream.{Asks, texts_of, IsText, asks_of, requests}
+use Rattle.teco_scan.specs.Stream.Asks.{Run, Undo, Redo, Rewind}
 use Rattle.teco_serve.specs.declared.splitter.Asked.{Asked}
 use Rattle.teco_serve.specs.declared.splitter.Asked.TheVariants as asked
 

@@ -1,5 +1,5 @@
 -- One exchange: what is done for one text of the stream, and what is shown of it.
-use Rattle.std.specs.Prelude.{◌≡◌, ◌≢◌, ◌≤◌, ◌⊎◌, ℕ, zero, suc, IsSomeAnd, Some, List, [], ◌∷◌, ◌++◌, Bool, true, false, ◌&&◌, not}
+use Rattle.std.specs.Prelude.{◌≡◌, ◌≢◌, ◌≤◌, ◌⊎◌, ℕ, zero, suc, IsSomeAnd, Some, List, [], ◌∷◌, ◌++◌, Bool, true, ◌&&◌, not}
 use Rattle.std.specs.Prelude.{if◌then◌else◌}
 use Rattle.std.specs.Bool.{MatchBool}
 use Rattle.teco_core.specs.declared.code.Code.TheVariants.{Lim}
@@ -12,8 +12,8 @@ use Rattle.teco_session.specs.Step.{Step, RunStep, Reply}
 use Rattle.teco_session.specs.declared.request.Request.{Request}
 use Rattle.teco_session.specs.declared.request.Request.TheVariants as request
 use Rattle.teco_serve.specs.Alarm.{IsSet}
-use Rattle.teco_serve.specs.Stream.{Asks}
-use Rattle.teco_serve.specs.Stream.Asks.{Run, Undo, Redo, Rewind}
+use Rattle.teco_scan.specs.Stream.{Asks, is_run}
+use Rattle.teco_scan.specs.Stream.Asks.{Run, Undo, Redo, Rewind}
 use Rattle.teco_serve.specs.Message.{replies_shown, star}
 use Rattle.teco_serve.specs.declared.alarm.Bounds.{Bounds}
 
@@ -76,12 +76,6 @@ pub record Exchange : Type 0 where
   pub before : History
   pub replies : List Reply
   pub after : History
-
-abbrev pub is_run : Asks → Bool
-is_run (Run text) = true
-is_run (Undo n) = false
-is_run (Redo n) = false
-is_run (Rewind n) = false
 
 -- A run made the session done: that is an exit, and ends the serving. A redo or a rewind is none.
 abbrev pub is_exit : Asks → History → History → Bool

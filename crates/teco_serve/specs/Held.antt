@@ -1,7 +1,7 @@
 -- The parts of a serving: one exchange, and all exchanges for what is held.
 use Rattle.std.specs.Prelude.{◌≡◌, ℕ, List, [], ◌++◌, Option, Some, None, Bool, true, false}
 use Rattle.teco_session.specs.History.{History}
-use Rattle.teco_serve.specs.Stream.{Asks, requests, texts_of}
+use Rattle.teco_scan.specs.Stream.{Asks, requests, texts_of}
 use Rattle.teco_serve.specs.Exchange.{Allowance, Exchange, BreaksOff, Does, exits, exchange_shown}
 use Rattle.teco_serve.specs.Serving.{EndsBy, GoOn, asked_in, exchanges_shown}
 use Rattle.teco_serve.specs.declared.served.Served.{Served}

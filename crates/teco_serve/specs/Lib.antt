@@ -1,4 +1,3 @@
-pub mod Stream
 pub mod Cut
 pub mod Message
 pub mod Alarm

@@ -2,7 +2,7 @@
 use Rattle.std.specs.Prelude.{◌≡◌, ℕ, List, [], ◌∷◌, ◌++◌, ◌⊎◌, map, Bool, true, false}
 use Rattle.std.specs.List.{flat_map}
 use Rattle.teco_session.specs.History.{History}
-use Rattle.teco_serve.specs.Stream.{Asks, requests}
+use Rattle.teco_scan.specs.Stream.{Asks, requests}
 use Rattle.teco_serve.specs.Message.{star}
 use Rattle.teco_serve.specs.Exchange.{Allowance, Exchange, Does, BreaksOff, exits, exchange_shown}
 use Rattle.teco_serve.specs.declared.served.Served.{Served}

@@ -1,11 +1,12 @@
 //! One text of the stream: what it asks is done, and the answers are shown.
 ghost use Rattle.std.specs.Prelude.{◌≡◌, ◌≢◌, ℕ, List, [], ◌&&◌, not, None, true, false, OnErr, OnOk};
 ghost use Rattle.teco_serve.specs.Cut.{value_of};
-ghost use Rattle.teco_serve.specs.Exchange.{Does, Exchange, HasRung, MovesInHistory, Repeats, RunsAllowed, allowance, is_exit, is_run};
+ghost use Rattle.teco_serve.specs.Exchange.{Does, Exchange, HasRung, MovesInHistory, Repeats, RunsAllowed, allowance, is_exit};
 ghost use Rattle.teco_serve.specs.Explaining.{HasTold, counted, move_lines, run_lines};
 ghost use Rattle.teco_serve.specs.Held.{ExchangeEnds, IsExchange};
 ghost use Rattle.teco_serve.specs.Message.{code_line, message, replies_shown, star};
-ghost use Rattle.teco_serve.specs.Stream.Asks.{Run};
+ghost use Rattle.teco_scan.specs.Stream.{is_run};
+ghost use Rattle.teco_scan.specs.Stream.Asks.{Run};
 ghost use Rattle.teco_session.specs.Answers.{answer_code, string_outcome};
 ghost use Rattle.teco_session.specs.History.{present};
 ghost use Rattle.teco_session.specs.Kept.{history_of};

@@ -1,16 +1,12 @@
 //! Cutting the stream of commands.
-ghost use Rattle.std.specs.List.{list_all, prefix_len, suffix_len};
-ghost use Rattle.std.specs.Option.{option_map};
-ghost use Rattle.std.specs.Prelude.{◌≡◌, ℕ, ◌+◌, ◌-◌, ◌≤◌, ◌<◌, [], ◌++◌, length, take, drop, slice_index, vec_len, List, MatchOption, IfOk, OnOk, OnErr, IsTrue};
+ghost use Rattle.std.specs.Prelude.{◌≡◌, ℕ, ◌≤◌, [], ◌++◌, drop, vec_len, List, IfOk, OnOk, OnErr};
 ghost use Rattle.teco_serve.specs.Cut.{AsksFirst, Cuts, IsHeld, value_of};
-ghost use Rattle.teco_serve.specs.Stream.{IsText, asks_of, history_asked, ends_in_escape, texts_of, times, without_fillers, without_fillers_after, without_fillers_before};
-ghost use Rattle.teco_core.specs.Ascii.{is_digit};
-ghost use Rattle.teco_core.specs.Number.{digits_value};
-ghost use Rattle.teco_core.specs.declared.ascii.TheConstants.{ESC};
+ghost use Rattle.teco_scan.specs.Stream.{asks_of};
 
 use std::alloc::Global;
 use std::marker::Model;
-use teco_core::{ESC, NoMemory, is_filler};
+use teco_core::NoMemory;
+use teco_scan::{HistoryMove, move_asked, pair_end};
 
 /// What a text of the stream asks.
 #[derive(Drop)]
@@ -25,107 +21,16 @@ pub enum Asked {
     Rewind(u32),
 }
 
-fn after_fillers(bytes: &[u8]) -> &[u8]
-    ensures { result.now ≡ without_fillers_before bytes.now }
-{
-    let mut start = 0;
-    while start < bytes.len() && is_filler(bytes[start]) {
-        start += 1;
-    }
-    &bytes[start..]
-}
-
-fn before_fillers(bytes: &[u8]) -> &[u8]
-    ensures { result.now ≡ without_fillers_after bytes.now }
-{
-    let mut end = bytes.len();
-    while end > 0 && is_filler(bytes[end - 1]) {
-        end -= 1;
-    }
-    &bytes[..end]
-}
-
-fn are_digits(bytes: &[u8]) -> bool
-    ensures { result ≡ list_all is_digit bytes.now }
-{
-    bytes.iter().all(|byte| byte.is_ascii_digit())
-}
-
-/// The number that the digits say, of which there are at most 9; 0 where there are none.
-fn number(digits: &[u8]) -> u32
-    requires few { length digits.now ≤ 9 }
-    requires digits { IsTrue (list_all is_digit digits.now) }
-    ensures { result ≡ digits_value 0 digits.now }
-{
-    let mut number: u32 = 0;
-    for digit in digits {
-        number = number * 10 + u32::from(*digit - b'0');
-    }
-    number
-}
-
-/// How often: the number that the digits say, once where there are none.
-fn times(digits: &[u8]) -> u32
-    requires few { length digits.now ≤ 9 }
-    requires digits { IsTrue (list_all is_digit digits.now) }
-    ensures { result ≡ times digits.now }
-{
-    if digits.is_empty() { 1 } else { number(digits) }
-}
-
-/// The undos, the redos or the rewind that the bytes ask, if they are at most 9 digits and a brace or a tilde.
-fn history_asked(bytes: &[u8]) -> Option<Asked>
-    ensures { option_map value_of result ≡ history_asked bytes.now }
-{
-    let (last, digits) = bytes.split_last()?;
-    if digits.len() > 9 || !are_digits(digits) {
-        return None;
-    }
-    match *last {
-        b'{' => Some(Asked::Undo(times(digits))),
-        b'}' => Some(Asked::Redo(times(digits))),
-        b'~' => Some(Asked::Rewind(number(digits))),
-        _ => None,
-    }
-}
-
 /// What a text asks.
 fn asked_in(alloc: Global, text: &[u8]) -> Result<Asked, NoMemory>
-    requires { 0 < length text.now }
     ensures { IfOk result (λ asked. value_of asked ≡ asks_of text.now) }
 {
-    let body = &text[..text.len() - 1];
-    match history_asked(before_fillers(after_fillers(body))) {
-        Some(asked) => Ok(asked),
+    match move_asked(text) {
+        Some(HistoryMove::Undo(n)) => Ok(Asked::Undo(n)),
+        Some(HistoryMove::Redo(n)) => Ok(Asked::Redo(n)),
+        Some(HistoryMove::Rewind(step)) => Ok(Asked::Rewind(step)),
         None => Ok(Asked::Run(Vec::from_slice(alloc, text)?)),
     }
-}
-
-fn ends_in_escape(bytes: &[u8]) -> bool
-    ensures { result ≡ ends_in_escape bytes.now }
-{
-    match bytes.split_last() {
-        Some((last, _)) => *last == ESC,
-        None => false,
-    }
-}
-
-/// The place of the second ESC of the leftmost pair, if there is a pair. No pair ends before `from`.
-fn pair_end(bytes: &[u8], from: usize) -> Option<usize>
-    requires within { from ≤ length bytes.now }
-    requires none { texts_of (take from bytes.now) ≡ [] }
-    ensures { MatchOption result (texts_of bytes.now ≡ [])
-        (λ at. (at < length bytes.now) × (slice_index bytes.now at ≡ ESC) × IsText (take at bytes.now)) }
-{
-    let mut escape = ends_in_escape(&bytes[..from]);
-    for at in from..bytes.len() {
-        let is_escape = bytes[at] == ESC;
-        if is_escape && escape {
-            return Some(at);
-        }
-        escape = is_escape;
-    }
-    None
 }
 
 /// Drops the bytes before `start` if they are at least as many as those from there on. Gives the place of the first byte that is held.

@@ -1,6 +1,9 @@
-use Rattle.std.proofs.Common.{◌+◌, ◌-◌, length, take, drop, sym, ap, ◌∙◌, arith}
+use Rattle.std.proofs.Common.{◌+◌, ◌-◌, [], length, take, drop, sym, ap, subst, ◌∙◌, arith}
+use Rattle.std.proofs.lemmas.Bool.{or_parts}
+use Rattle.teco_lint.specs.Right.{IsRightString}
 use Rattle.teco_lint.specs.Strings.{is_faulty_string, strings_of}
 use Rattle.teco_lint.proofs.Cuts.{one_more, last_one, whole_held}
+use Rattle.teco_lint.proofs.Rights.{are_right, one_right}
 use Rattle.teco_lint.proofs.Told.{told_later, one_told, last_told}
 use Rattle.teco_lint.proofs.checking.check.Goals as goal
 
@@ -14,6 +17,11 @@ loop-end-preserved c =
       so_far = c.loop-end.invariant.so_far
           ∙ one_more (is_faulty_string code) c.loop-end.faulty c.in_ok-faulty.field-0 string (strings_of (drop (c.in-Some.end + 1) commands))
           (strings_of (drop c.loop-end.start commands)) c.in-Some.ensures.cuts c.in_ok-faulty.ensures.found;
+      right = λ none rest.
+          let parts = or_parts c.loop-end.faulty c.in_ok-faulty.field-0 none in
+          c.loop-end.invariant.right parts.0
+          (one_right code string (strings_of (drop (c.in-Some.end + 1) commands)) (strings_of (drop c.loop-end.start commands))
+          c.in-Some.ensures.cuts (c.in_ok-faulty.ensures.right parts.1) rest);
       told = λ later keeps rest.
           c.loop-end.invariant.told later (λ test was. keeps test (c.in_ok-faulty.ensures.kept test was))
           (one_told code later commands c.loop-end.start c.in-Some.end (strings_of (drop (c.in-Some.end + 1) commands)) (strings_of (drop c.loop-end.start commands))
@@ -28,6 +36,16 @@ returns-clause-found c =
     ∙ last_one (is_faulty_string c.registers_in-registers.result.called) c.loop-end.faulty c.in_ok-faulty-2.field-0
     (drop c.loop-end.start commands) (strings_of (drop c.loop-end.start commands)) c.in_default.ensures.last
     (c.in_ok-faulty-2.ensures.found ∙ ap (is_faulty_string c.registers_in-registers.result.called) (whole_held c.loop-end.start (length commands) commands (omega arith))))
+
+pub returns-clause-right : goal.returns-clause-right
+returns-clause-right c = λ none.
+    let commands = c.args.commands.now in
+    let code = c.registers_in-registers.result.called in
+    let parts = or_parts c.loop-end.faulty c.in_ok-faulty-2.field-0 none in
+    let rest : IsRightString code (drop c.loop-end.start commands) =
+    subst (IsRightString code) (whole_held c.loop-end.start (length commands) commands (omega arith)) (c.in_ok-faulty-2.ensures.right parts.1) in
+    are_right code commands (c.loop-end.invariant.right parts.0
+    (one_right code (drop c.loop-end.start commands) [] (strings_of (drop c.loop-end.start commands)) c.in_default.ensures.last rest tt))
 
 pub returns-clause-told : goal.returns-clause-told
 returns-clause-told c =

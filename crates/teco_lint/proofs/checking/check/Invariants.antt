@@ -1,7 +1,8 @@
-use Rattle.std.proofs.Common.{◌≡◌, ◌≤◌, ◌-◌, ◌||◌, Bool, List, length, drop}
-use Rattle.std.specs.List.{list_any}
+use Rattle.std.proofs.Common.{◌≡◌, ◌≤◌, ◌-◌, ◌||◌, Bool, false, List, length, drop}
+use Rattle.std.specs.List.{AllByRecursion, list_any}
 use Rattle.teco_lint.specs.declared.remarks.Remark.{Remark}
 use Rattle.teco_lint.specs.Told.{IsTold}
+use Rattle.teco_lint.specs.Right.{IsRightString}
 use Rattle.teco_lint.specs.Strings.{AreTold, is_faulty, is_faulty_string, strings_of}
 use Rattle.teco_lint.proofs.checking.check.Given as goal
 
@@ -11,6 +12,8 @@ invariant-loop-end l = record {
   inside : l.start ≤ length l.commands;
   so_far : is_faulty l.registers.called l.commands
       ≡ (l.faulty || list_any (is_faulty_string l.registers.called) (strings_of (drop l.start l.commands)));
+  right : l.faulty ≡ false → AllByRecursion (IsRightString l.registers.called) (strings_of (drop l.start l.commands))
+      → AllByRecursion (IsRightString l.registers.called) (strings_of l.commands);
   told : (later : List Remark) → ((test : Remark → Bool) → IsTold test l.remarks.items → IsTold test later)
       → AreTold l.registers.called later l.start (strings_of (drop l.start l.commands)) → AreTold l.registers.called later 0 (strings_of l.commands);
 }

@@ -1,36 +1,25 @@
-use Rattle.std.proofs.Common.{◌≡◌, ℕ, ◌+◌, ◌-◌, List, [], ◌∷◌, take, drop, sym, ap, ◌∙◌, arith}
-use Rattle.teco_lint.specs.Strings.{strings_from}
-use Rattle.teco_lint.proofs.Cuts.{one_cut, one_held, all_held, more_held, whole_held}
+use Rattle.std.proofs.Common.{◌<◌, ℕ, List, length, drop, arith, subst, length-drop}
+use Rattle.std.proofs.lemmas.Grind.{common_steps}
+use Rattle.std.proofs.lemmas.List.{take_rest}
+use Rattle.teco_lint.proofs.Cuts.{none_cut-from, one_cut-from}
 use Rattle.teco_lint.proofs.cutting.string_end.Goals as goal
 
-pub loop-at-init : goal.loop-at-init
-loop-at-init c =
-    let rest = drop c.args.from c.args.commands.now in
-    let e : 0 ≡ c.args.from - c.args.from = omega arith in
-    ap (λ (n : ℕ). strings_from (take n rest) rest) e
+pub overflow_add-result : goal.overflow_add-result
+overflow_add-result c =
+    let inside : c.in-Some.at < length (drop c.args.from c.args.commands.now) =
+    subst (λ (rest : List ℕ). c.in-Some.at < length rest) (take_rest c.args.commands.now c.args.from) c.in-Some.ensures.0 in
+    grind (arith, common_steps)
 
-pub loop-at-preserved : goal.loop-at-preserved
-loop-at-preserved c =
-    let held = take (c.loop-at.at - c.args.from) (drop c.args.from c.args.commands.now) in
-    c.loop-at.invariant
-    ∙ one_held held c.loop-at.at c.args.commands.now (omega arith) (sym c.is_pair.ensures ∙ c.if-is_pair.false)
-    ∙ ap (λ (h : List ℕ). strings_from h (drop (c.loop-at.at + 1) c.args.commands.now)) (more_held c.args.from c.loop-at.at c.args.commands.now (omega arith) (omega arith))
-
-pub returns-then-is_pair : goal.returns-then-is_pair
-returns-then-is_pair c =
-    let held = take (c.loop-at.at - c.args.from) (drop c.args.from c.args.commands.now) in
+pub returns-in-Some : goal.returns-in-Some
+returns-in-Some c =
+    let commands = c.args.commands.now in
+    let from = c.args.from in
+    let inside : c.in-Some.at < length (drop from commands) = subst (λ (rest : List ℕ). c.in-Some.at < length rest) (take_rest commands from) c.in-Some.ensures.0 in
     record {
-      inside = (omega arith, omega arith);
-      cuts = c.loop-at.invariant ∙ one_cut held c.loop-at.at c.args.commands.now (omega arith) (sym c.is_pair.ensures ∙ c.if-is_pair.true);
+      inside = (omega arith, omega (arith, inside, length-drop from commands));
+      cuts = one_cut-from commands from c.in-Some.at c.in-Some.ensures;
       last = tt;
     }
 
-pub returns : goal.returns
-returns c =
-    let held = take (c.loop-at.at - c.args.from) (drop c.args.from c.args.commands.now) in
-    record {
-      inside = tt;
-      cuts = tt;
-      last = c.loop-at.invariant ∙ all_held held c.loop-at.at c.args.commands.now (omega arith)
-          ∙ ap (λ (h : List ℕ). h ∷ []) (whole_held c.args.from c.loop-at.at c.args.commands.now (omega arith));
-    }
+pub returns-in-None : goal.returns-in-None
+returns-in-None c = record { inside = tt; cuts = tt; last = none_cut-from c.args.commands.now c.args.from c.in-None.ensures }

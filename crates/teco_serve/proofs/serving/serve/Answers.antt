@@ -4,7 +4,7 @@ use Rattle.std.proofs.Common.{◌≡◌, Result, Ok, Err, [], ◌++◌, take, fa
 use Rattle.teco_session.specs.Kept.{history_of}
 use Rattle.teco_io.specs.Terminal.{Shows}
 use Rattle.teco_io.specs.Source.{Gives}
-use Rattle.teco_serve.specs.Stream.{requests, texts_of}
+use Rattle.teco_scan.specs.Stream.{requests, texts_of}
 use Rattle.teco_serve.specs.Exchange.{HasRung, allowance}
 use Rattle.teco_serve.specs.Message.{star}
 use Rattle.teco_serve.specs.declared.served.Served.TheVariants.{EndOfCommands, NoMemory, ReadFault, ShowFault}

@@ -2,7 +2,7 @@ use Rattle.std.proofs.Common.{◌≡◌, ℕ, List, [], false}
 use Rattle.teco_session.specs.Kept.{history_of}
 use Rattle.teco_io.specs.Terminal.{Shows}
 use Rattle.teco_io.specs.Source.{Gives}
-use Rattle.teco_serve.specs.Stream.{texts_of}
+use Rattle.teco_scan.specs.Stream.{texts_of}
 use Rattle.teco_serve.specs.Exchange.{Exchange, HasRung, allowance}
 use Rattle.teco_serve.specs.Serving.{Exchanges, GoOn, all_shown}
 use Rattle.teco_serve.specs.Held.{CutsOff}

@@ -4,7 +4,7 @@ use Rattle.teco_serve.specs.Cut.{AsksFirst, Cuts}
 use Rattle.teco_serve.specs.Exchange.{HasRung, allowance}
 use Rattle.teco_serve.proofs.Showing.{Shows-joins}
 use Rattle.teco_serve.proofs.Servings.{GoOn-append, HeldEnds-one, exchange_more, exchange_shows}
-use Rattle.teco_serve.proofs.Texts.{shorter}
+use Rattle.teco_scan.proofs.Streams.{shorter}
 use Rattle.teco_serve.proofs.serving.serve_held.Goals as goal
 
 pub returns-in-Some-ended : goal.returns-in-Some-ended

@@ -3,8 +3,8 @@ use Rattle.std.proofs.Common.{◌≡◌, ◌+◌, ◌-◌, ◌<◌, ℕ, List, �
 use Rattle.std.proofs.lemmas.List.{drop-drop, take_rest, length-drop}
 use Rattle.teco_core.specs.declared.ascii.TheConstants.{ESC}
 use Rattle.teco_serve.specs.Cut.{value_of}
-use Rattle.teco_serve.specs.Stream.{IsText, asks_of, requests}
-use Rattle.teco_serve.proofs.Texts.{cut_parts, requests-cut, text-some}
+use Rattle.teco_scan.specs.Stream.{IsText, asks_of, requests}
+use Rattle.teco_scan.proofs.Streams.{cut_parts, requests-cut}
 use Rattle.teco_serve.proofs.splitter.Splitter.next.Goals as goal
 
 -- the slice from the start on is what is held
@@ -60,9 +60,6 @@ returns-in_err-asked c = record {
   first = grind (arith, common_steps);
   err = grind (arith, common_steps);
 }
-
-pub asked_in-requires : goal.asked_in-requires
-asked_in-requires c = text-some _ c.in-Some.ensures.2
 
 pub invariant_of-self-in_err-asked : goal.invariant_of-self-in_err-asked
 invariant_of-self-in_err-asked c =

@@ -1,7 +1,0 @@
-use Rattle.std.proofs.Common.{ap, sym, ◌∙◌}
-use Rattle.teco_serve.specs.Stream.{ends_in_escape}
-use Rattle.teco_serve.proofs.Texts.{ends-more}
-use Rattle.teco_serve.proofs.splitter.ends_in_escape.Goals as goal
-
-pub returns-in-Some : goal.returns-in-Some
-returns-in-Some c = sym (ends-more c.in-Some.field-0-1.now c.in-Some.last.now) ∙ ap ends_in_escape (sym c.in-Some.ensures.cases.0)
