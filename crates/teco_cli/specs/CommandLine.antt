@@ -24,6 +24,7 @@ use Rattle.teco_cli.specs.declared.fault.LineFault.{LineFault}
 use Rattle.teco_cli.specs.declared.fault.LineFault.TheVariants.{Refused, NoMemory}
 use Rattle.teco_cli.specs.declared.refusal.Refusal.{Refusal}
 use Rattle.teco_cli.specs.declared.refusal.RefusedAs.TheVariants.{Faulty}
+use Prim.Native.Char.{code}
 
 -- a depth that a session can be asked for
 abbrev pub IsDepth : ℕ → Type 0
@@ -71,7 +72,7 @@ without_last_escapes bytes = take (length bytes - suffix_len is_escape bytes) by
 -- since two would end the command string inside the loop. After it come a space and an ESC, which drops what the
 -- last command gave.
 abbrev pub on_pages : List ℕ → List ℕ
-on_pages strings = codes "Y<" ++ without_last_escapes strings ++ (ESC ∷ 32 ∷ ESC ∷ codes "-1-^N;P>EX" ++ (ESC ∷ ESC ∷ []))
+on_pages strings = codes "Y<" ++ without_last_escapes strings ++ (ESC ∷ code " " ∷ ESC ∷ codes "-1-^N;P>EX" ++ (ESC ∷ ESC ∷ []))
 
 -- --execute or --file gives a source
 abbrev pub has_sources : Option Text → List Text → Bool

@@ -5,6 +5,7 @@ use Rattle.std.specs.List.{list_any}
 use Rattle.std.specs.Str.{bytes_eq}
 use Rattle.clap.specs.Words.{Rule, Text}
 use Rattle.teco_cli.specs.OptionRules.{option_rules}
+use Prim.Native.Char.{code}
 
 -- the word is --name, with nothing after it
 abbrev pub is_long : Text → Option Text → Bool
@@ -23,7 +24,7 @@ wants_value word rule = nat_lt 0 rule.value_names && (is_long word rule.long || 
 -- a hyphen, 45
 abbrev pub begins_with_hyphen : Text → Bool
 begins_with_hyphen [] = false
-begins_with_hyphen (b ∷ bytes) = b == 45
+begins_with_hyphen (b ∷ bytes) = b == code "-"
 
 -- the word and the next one are an option and its value, which the parser would take for an option
 abbrev pub is_joined : Text → Text → Bool

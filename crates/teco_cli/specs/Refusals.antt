@@ -1,5 +1,5 @@
 -- Why a line is refused: what it is told as, its text and its status.
-use Rattle.std.specs.Prelude.{ℕ, List, ◌∷◌, [], ◌++◌, codes, ◌≡◌, ◌≢◌, IfSome, Option, Some, option_map, Result, Ok, Err}
+use Rattle.std.specs.Prelude.{ℕ, List, ◌++◌, codes, ◌≡◌, ◌≢◌, IfSome, Option, Some, option_map, Result, Ok, Err}
 use Rattle.std.specs.String.{string_bytes}
 use Rattle.std.specs.declared.string.String.{String}
 use Rattle.std.specs.declared.alloc.Global.{Global}
@@ -32,8 +32,8 @@ IsShown output text = IfSome output (λ shown. string_bytes text ≡ shown)
 
 -- the text of a faulty line of a program with this usage
 abbrev pub fault_text : List ℕ → List ℕ → List ℕ
-fault_text why usage = codes "error: " ++ why ++ (10 ∷ 10 ∷ codes "Usage: ") ++ usage
-    ++ (10 ∷ 10 ∷ codes "For more information, try '--help'.") ++ 10 ∷ []
+fault_text why usage = codes "error: " ++ why ++ codes "\n\nUsage: " ++ usage
+    ++ codes "\n\nFor more information, try '--help'." ++ codes "\n"
 
 -- The line is faulty, and its text says why, and the usage.
 pub record IsFaulty (why usage : List ℕ) (refusal : Refusal) : Type 0 where
