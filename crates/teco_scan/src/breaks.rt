@@ -1,11 +1,12 @@
 //! Where a list of a text breaks.
 ghost use Rattle.std.specs.Prelude.{◌≡◌, ◌≢◌, ◌+◌, ◌<◌, ◌≤◌, ℕ, true, false, List, length, drop, IfSome, Option, Some, None, Err, is_none};
 ghost use Rattle.teco_core.specs.declared.limits.TheConstants.{BLOCK_LIMIT};
-ghost use Rattle.teco_scan.specs.Breaks.{Breaks, IsTokenPlace, fault_at, first_break, inside_list, opening};
+ghost use Rattle.teco_scan.specs.Breaks.{Breaks, IsTokenPlace, by_spelling, fault_at, first_break, inside_list, opening};
 ghost use Rattle.teco_scan.specs.Scan.{Instruction, TokenMeaning, ended, found, scan};
 ghost use Rattle.teco_scan.specs.Skip.{closing_mark, opened_kind};
 ghost use Rattle.teco_scan.specs.Lists.{at_instruction, at_mark, broken, list_at, nodes};
 ghost use Rattle.teco_scan.specs.Nesting.{is_whole};
+ghost use Rattle.teco_scan.specs.Walk.{OpenList, walk};
 ghost use Rattle.teco_scan.specs.declared.command.Modifiers.{Modifiers};
 
 use crate::blocks::{Kind, closing_mark, opened_kind, skip_block, skip_whole_block};
@@ -185,10 +186,15 @@ pub fn first_fault(text: &[u8]) -> Option<ListFault>
 }
 
 /// The laws of the first fault, as clauses: there is none exactly if the nodes of the text are whole; by its code the text's own list is
-/// broken; and its place lies in the text. The call does nothing.
+/// broken; and its place lies in the text. Where the list of a block is broken by a code, a walk from there comes to a fault by that code,
+/// at a place in the text. The call does nothing.
 pub fn break_laws()
     ensures whole { (text : List ℕ) → is_whole (nodes text) ≡ is_none (first_break text) }
     ensures broken { (text : List ℕ) (fault : ListFault) → first_break text ≡ Some fault
         → (list_at None 0 text).1 ≡ broken fault.code }
     ensures within { (text : List ℕ) (fault : ListFault) → first_break text ≡ Some fault → fault.at ≤ length text }
+    ensures in_block { (text bs : List ℕ) (kind : Kind) (opens start : ℕ) (around : List OpenList) (code : Code)
+        → (list_at (Some kind) (length around) bs).1 ≡ broken code
+        → (fault : ListFault) × (walk by_spelling text (record { kind = Some kind; opening = opens; start = start }) around bs ≡ Some fault)
+        × (fault.code ≡ code) × (fault.at ≤ length text) }
 {}
