@@ -11,7 +11,7 @@ use crate::finding::last_change;
 use std::alloc::Global;
 use std::marker::Model;
 use teco_core::{Code, NoMemory};
-use teco_exec::{Outcome, Place, meaning_laws, run_where};
+use teco_exec::{Never, Options, Outcome, Place, Watched, meaning_laws, run_with};
 use teco_io::MemoryTerminal;
 use teco_session::{Answer, Changes, Session};
 use teco_store::Editor;
@@ -208,13 +208,24 @@ impl Walk {
     {
         let alloc = self.alloc();
         let mut terminal = MemoryTerminal::new(alloc);
-        let stopped = run_where(editor, self.text.as_slice(), n, &mut terminal, alloc);
-        if lacks_memory(stopped.outcome.code) {
+        let mut watch = Watched::new(alloc);
+        let outcome = run_with(
+            editor,
+            self.text.as_slice(),
+            &mut terminal,
+            Options {
+                limit: n,
+                stop: &mut Never,
+                watch: &mut watch,
+            },
+        );
+        if lacks_memory(outcome.code) {
             return Err(NoMemory);
         }
+        let place = watch.into_place()?;
         Ok(Seen {
-            outcome: stopped.outcome,
-            place: stopped.place?,
+            outcome,
+            place,
             typed: terminal.take(),
         })
     }

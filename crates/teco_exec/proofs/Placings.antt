@@ -1,5 +1,5 @@
 -- Places that are told: fillers before a token, turns of blocks, and calls.
-use Rattle.std.proofs.Common.{◌≡◌, ℕ, suc, ◌+◌, ◌++◌, Bool, true, false, List, [], ◌∷◌, ◌≤◌, drop, length, map, Option, Some, None, IfOk, IfSome, IsSomeAnd, MatchOption, Result, Ok, Err, ◌↔◌, arith, refl, sym, ap, subst, ◌∙◌, if◌then◌else◌}
+use Rattle.std.proofs.Common.{◌≡◌, ℕ, suc, ◌+◌, ◌++◌, Bool, true, false, List, [], ◌∷◌, ◌≤◌, drop, length, map, Option, Some, None, IfOk, IfSome, IsSomeAnd, Result, Ok, Err, ◌↔◌, arith, refl, sym, ap, subst, ◌∙◌, if◌then◌else◌}
 use Rattle.std.proofs.lemmas.List.{drop-drop, length-drop}
 use Rattle.teco_core.specs.Ascii.{is_filler}
 use Rattle.teco_scan.specs.Scan.{TokenMeaning, scan, scan_here, after_fillers}
@@ -11,8 +11,8 @@ use Rattle.teco_exec.specs.Places.{CallToken, HaveCalled, IsCallOf, IsPlaceAfter
 use Rattle.teco_core.specs.Arguments.{Arguments}
 use Rattle.teco_core.specs.declared.code.Code.{Code}
 use Rattle.std.specs.declared.alloc.AllocError.{AllocError}
-use Rattle.teco_exec.specs.Running.{Host, Origin, Reaches, RunGoesOn, StandsSomewhere, StandsWhereTold, Tells, at_register_call, code_left, reached_by_exit}
-use Rattle.teco_exec.specs.Telling.{IsLastPlace, call_told, told_of}
+use Rattle.teco_exec.specs.Running.{Host, Origin, Reaches, RunGoesOn, StandsSomewhere, StandsWhereTold, Tells, at_register_call, code_left, ended_by, reached_by_exit}
+use Rattle.teco_exec.specs.Telling.{IsLastPlace, KnowsLast, call_told, told_of}
 use Rattle.teco_exec.specs.declared.place.Call.{Call}
 use Rattle.teco_exec.specs.declared.place.Place.{Place}
 use Rattle.teco_exec.specs.Watching.{KeepsPlace, Knows}
@@ -125,20 +125,16 @@ failed_place o done p w one nowhere = record {
   last = λ j more le. (let same : done ≡ j = omega arith in subst (λ i. stands_after o.state o.text i ≡ None) same nowhere);
 }
 
--- what a watch knows at the end of a whole run, by its code
-abbrev pub KnowsLast : (Option Told → Type 0) → Origin → ℕ → Option Code → Type 0
-KnowsLast knows o done code = MatchOption code (knows None) (λ _. (p : Told) × knows (Some p) × IsPlaceAfter o.state o.text done p)
-
 exit_tells : (knows : Option Told → Type 0) (P : Told → Type 0) (limit : ℕ) (o : Origin) (before after : Host) (a : Arguments) (x : Exit) → Reaches limit o before after (reached_by_exit a [] x) → ((p : Told) → P p → StandsWhereTold o [] p) → Tells knows x after.steps P
-    → KnowsLast knows o after.steps (code_left x)
+    → KnowsLast knows o.state o.text (ended_by (code_left x) after.steps)
 exit_tells knows P limit o before after a ending.Return r at t = t
 exit_tells knows P limit o before after a ending.Over r at t = t
 exit_tells knows P limit o before after a (ending.Fail code) r at t = (t.0, t.1, failed_place o after.steps t.0 (at t.0 t.3) t.2 r.nowhere)
 exit_tells knows P limit o before after a (ending.Stop code) r at t = (t.0, t.1, stopped_place o after.steps t.0 (at t.0 t.3) t.2)
 
 pub tells_last : (knows : Option Told → Type 0) (P : Told → Type 0) (limit : ℕ) (o : Origin) (before after : Host) (a : Arguments) (x : Exit) (code : Option Code) → code ≡ code_left x → Reaches limit o before after (reached_by_exit a [] x)
-    → ((p : Told) → P p → StandsWhereTold o [] p) → Tells knows x after.steps P → KnowsLast knows o after.steps code
-tells_last knows P limit o before after a x code is r at t = subst (KnowsLast knows o after.steps) (sym is) (exit_tells knows P limit o before after a x r at t)
+    → ((p : Told) → P p → StandsWhereTold o [] p) → Tells knows x after.steps P → KnowsLast knows o.state o.text (ended_by code after.steps)
+tells_last knows P limit o before after a x code is r at t = subst (λ (c : Option Code). KnowsLast knows o.state o.text (ended_by c after.steps)) (sym is) (exit_tells knows P limit o before after a x r at t)
 
 -- A place that was kept is the one that was told.
 abbrev pub Keeps : Result (Option Place) AllocError → Told → Type 0
@@ -158,13 +154,13 @@ kept_some (Ok (Some place)) p keeps e = let same : Some place ≡ None = cc in c
 kept_some (Err e) p keeps is = absurd cc
 
 module _ (w : Watched) (r : Result (Option Place) AllocError) (none : Knows w None → r ≡ Ok None) (some : (p : Told) → Knows w (Some p) → Keeps r p) where
-  pub place_told : (o : Origin) (done : ℕ) (code : Option Code) → KnowsLast (Knows w) o done code → IfOk r (λ told. IfSome told (λ place. IsLastPlace o.state o.text done place))
-  place_told o done None knows = subst (λ (x : Result (Option Place) AllocError). IfOk x (λ told. IfSome told (λ place. IsLastPlace o.state o.text done place))) (sym (none knows)) tt
-  place_told o done (Some code) knows = kept_place r knows.0 o.state o.text done (some knows.0 knows.1) knows.2
+  pub place_told : (s : State) (text : List ℕ) (done : ℕ) (code : Option Code) → KnowsLast (Knows w) s text (ended_by code done) → IfOk r (λ told. IfSome told (λ place. IsLastPlace s text done place))
+  place_told s text done None knows = subst (λ (x : Result (Option Place) AllocError). IfOk x (λ told. IfSome told (λ place. IsLastPlace s text done place))) (sym (none knows)) tt
+  place_told s text done (Some code) knows = kept_place r knows.0 s text done (some knows.0 knows.1) knows.2
 
-  pub told_exactly : (o : Origin) (done : ℕ) (code : Option Code) → KnowsLast (Knows w) o done code → (r ≡ Ok None) ↔ (code ≡ None)
-  told_exactly o done None knows = (λ e. refl, λ e. none knows)
-  told_exactly o done (Some code) knows = (λ e. absurd (kept_some r knows.0 (some knows.0 knows.1) e), λ e. absurd cc)
+  pub told_exactly : (s : State) (text : List ℕ) (done : ℕ) (code : Option Code) → KnowsLast (Knows w) s text (ended_by code done) → (r ≡ Ok None) ↔ (code ≡ None)
+  told_exactly s text done None knows = (λ e. refl, λ e. none knows)
+  told_exactly s text done (Some code) knows = (λ e. absurd (kept_some r knows.0 (some knows.0 knows.1) e), λ e. absurd cc)
 
 -- what the watch keeps
 pub kept_here : (steps : ℕ) (text : List ℕ) (to : ℕ) (turns : List (Option ℕ)) (blocks : List Frame) (calls : List Call) → turns ≡ open_turns blocks → calls ≡ []

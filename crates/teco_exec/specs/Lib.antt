@@ -15,6 +15,8 @@ pub mod Remembered
 pub mod Tokens
 pub mod View
 pub mod Runs
+pub mod RunsOn
+pub mod Options
 pub mod Running
 pub mod TextStep
 pub mod Semicolon

@@ -1,5 +1,5 @@
 -- A place as it is told, and when it is.
-use Rattle.std.specs.Prelude.{◌≡◌, ◌↔◌, ℕ, List, Option, None, Result, Ok, IfOk, IfSome, map}
+use Rattle.std.specs.Prelude.{◌≡◌, ◌↔◌, ℕ, List, Option, None, Some, Result, Ok, IfOk, IfSome, MatchOption, map}
 use Rattle.std.specs.declared.alloc.AllocError.{AllocError}
 use Rattle.teco_scan.specs.Breaks.{first_break}
 use Rattle.teco_store.specs.State.{State}
@@ -29,3 +29,9 @@ pub record TellsPlace (s : State) (text : List ℕ) (outcome : Outcome)
     (told : Result (Option Place) AllocError) : Type 0 where
   pub place : IfOk told (λ some. IfSome some (λ p. IsLastPlace s text outcome.steps p))
   pub exactly : (told ≡ Ok None) ↔ (outcome.code ≡ None)
+
+-- Of a string that was run from a state and ended so, a watch that knew nothing before knows this: where its run
+-- last stood, or still nothing where it ended with no code.
+abbrev pub KnowsLast : (Option Told → Type 0) → State → List ℕ → Outcome → Type 0
+KnowsLast knows s text outcome = MatchOption outcome.code (knows None)
+    (λ _. (p : Told) × knows (Some p) × IsPlaceAfter s text outcome.steps p)

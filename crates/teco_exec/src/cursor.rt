@@ -12,12 +12,12 @@ use teco_scan::spelling;
 
 /// Where a text is being run: how many of its bytes come before, the arguments so far, the open blocks, and what is remembered of it.
 #[derive(Drop)]
-pub(crate) struct Cursor<'t> {
-    pub text: &'t [u8],
-    pub at: usize,
-    pub args: Args,
-    pub blocks: Blocks<'t>,
-    pub remembered: Remembered<'t>,
+pub struct Cursor<'t> {
+    pub(crate) text: &'t [u8],
+    pub(crate) at: usize,
+    pub(crate) args: Args,
+    pub(crate) blocks: Blocks<'t>,
+    pub(crate) remembered: Remembered<'t>,
     ghost within: { at ≤ length text.now },
     ghost begin: { All (λ b. b.start ≤ length text.now) blocks },
     ghost same: { remembered ≡ text.now },
@@ -30,7 +30,7 @@ impl<'t> Cursor<'t> {
     ghost use Rattle.teco_exec.specs.View.{cursor_at_start, cursor};
 
     /// The beginning of a text, with these arguments, this room for its open blocks, and memory for its tags.
-    pub fn begin(
+    pub(crate) fn begin(
         text: &'t [u8],
         args: Args,
         room: &'t mut [Block; BLOCK_LIMIT],
@@ -49,14 +49,14 @@ impl<'t> Cursor<'t> {
     }
 
     /// Whether an iteration is open.
-    pub fn has_iteration(&self) -> bool
+    pub(crate) fn has_iteration(&self) -> bool
         ensures { result ≡ machine.inside_iteration (cursor self.now).blocks }
     {
         self.blocks.has_iteration()
     }
 
     /// Whether `;` without modifiers comes next.
-    pub fn leave_is_next(&self) -> bool
+    pub(crate) fn leave_is_next(&self) -> bool
         ensures { result ≡ machine.leave_is_next (scan (cursor self.now).left) }
     {
         spelling();

@@ -10,7 +10,7 @@ use teco_scan::{Kind, Span};
 
 impl<'t> Cursor<'t> {
     /// Leaves the innermost iteration. Where it can't, the cursor stays.
-    pub fn leave(&mut self) -> Result<(), Code>
+    pub(crate) fn leave(&mut self) -> Result<(), Code>
         ensures text { self.new.text ≡ self.old.text }
         ensures moves { cursor_or_error self.new result
             ≡ machine.after_leaving_iteration (cursor self.old).blocks (cursor self.old).args
@@ -38,7 +38,7 @@ impl<'t> Cursor<'t> {
 
     /// Jumps past the first tag of this name, which lies in the text, that is directly in the innermost list of commands that has one. Where none has, the cursor
     /// stays.
-    pub fn jump(&mut self, name: Span) -> Result<(), Code>
+    pub(crate) fn jump(&mut self, name: Span) -> Result<(), Code>
         requires { IsSpanIn (length self.old.text.now) name }
         ensures text { self.new.text ≡ self.old.text }
         ensures moves { cursor_or_error self.new result

@@ -39,7 +39,7 @@ impl<'t> Cursor<'t> {
     ///
     /// It is the token that was found here.
     #[inline(always)]
-    pub fn pass(&mut self, found: &Found) -> Coming
+    pub(crate) fn pass(&mut self, found: &Found) -> Coming
         requires read { found_in self.old.text.now found.now ≡ scan (drop self.old.at self.old.text.now) }
         requires place { IsFoundAt self.old.text.now self.old.at found.now }
         ensures text { self.new.text ≡ self.old.text }
@@ -182,7 +182,7 @@ impl<'t> Cursor<'t> {
 
     /// Takes a step that opens a block or ends a turn, and whose token ends at a place.
     #[inline(always)]
-    pub fn block_step(&mut self, block: BlockStep, to: usize) -> Result<(), Code>
+    pub(crate) fn block_step(&mut self, block: BlockStep, to: usize) -> Result<(), Code>
         requires within { to ≤ length self.old.text.now }
         requires opens { MayOpen block self.old.blocks }
         ensures text { self.new.text ≡ self.old.text }

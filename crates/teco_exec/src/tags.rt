@@ -50,7 +50,7 @@ impl<'t> Cursor<'t> {
 
     /// Passes the tags that come here. None uses a step, so the text goes on after them as it would here.
     #[inline(always)]
-    pub fn pass_tags(&mut self)
+    pub(crate) fn pass_tags(&mut self)
         ensures { GoesOnAlike self.old self.new }
     {
         block_laws();

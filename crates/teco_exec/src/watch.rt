@@ -11,7 +11,9 @@ use teco_core::{NoMemory, Reg};
 use teco_scan::{filler_end, first_fault};
 
 /// Who is told where a run last stood: of the innermost text first, and then of each text that has called.
-pub(crate) trait Watch {
+///
+/// Only this crate has such types, since no other one knows a cursor.
+pub trait Watch {
     // that it has been told nothing, or so
     ghost knows: { Self → Option Told → Type 0 };
 
@@ -30,7 +32,7 @@ pub(crate) trait Watch {
 
 /// Nobody watches.
 #[derive(Clone, Copy)]
-pub(crate) struct Unwatched;
+pub struct Unwatched;
 
 impl Watch for Unwatched {
     ghost knows = { λ _ _. Unit {0} };
@@ -44,15 +46,19 @@ impl Watch for Unwatched {
 
 /// A watch that keeps the place, unless it lacks memory.
 #[derive(Drop)]
-pub(crate) struct Watched {
-    pub alloc: Global,
-    pub place: Place,
-    pub has_stood: bool,
-    pub lacks_memory: bool,
+pub struct Watched {
+    alloc: Global,
+    place: Place,
+    has_stood: bool,
+    lacks_memory: bool,
 }
 
 impl Watched {
     ghost use Rattle.teco_exec.specs.Watching.{KeepsPlace, Knows};
+    ghost use Rattle.teco_exec.specs.Telling.{KnowsLast, TellsPlace};
+    ghost use Rattle.teco_exec.specs.declared.outcome.Outcome.{Outcome};
+    ghost use Rattle.teco_store.specs.State.{State};
+    ghost use Rattle.std.specs.Prelude.{List};
 
     /// Nothing has been told. Takes no memory.
     pub fn new(alloc: Global) -> Watched
@@ -72,8 +78,17 @@ impl Watched {
         }
     }
 
-    /// The place that it keeps.
+    /// Where the run last stood of which it was told: None where it ended with no code, and an error where memory lacks for the place.
     pub fn into_place(self) -> Result<Option<Place>, NoMemory>
+        ensures none { Knows self None → result ≡ Ok None }
+        ensures told { (s : State) (text : List ℕ) (outcome : Outcome)
+            → KnowsLast (Knows self) s text outcome → TellsPlace s text outcome result }
+    {
+        self.kept()
+    }
+
+    /// The place that it keeps.
+    fn kept(self) -> Result<Option<Place>, NoMemory>
         ensures none { Knows self None → result ≡ Ok None }
         ensures some { (p : Told) → Knows self (Some p)
             → IfOk result (λ told. IsSomeAnd told (λ place. KeepsPlace place p)) }

@@ -10,6 +10,8 @@ ghost use Rattle.teco_scan.specs.Stream.Asks.{Run};
 ghost use Rattle.teco_session.specs.Answers.{answer_code, string_outcome};
 ghost use Rattle.teco_session.specs.History.{present};
 ghost use Rattle.teco_session.specs.Kept.{history_of};
+ghost use Rattle.teco_session.specs.RunsIn.{RunsIn};
+ghost use Rattle.teco_exec.specs.Runs.{RunsWithin, StillSays};
 ghost use Rattle.teco_session.specs.Step.{Reply, RunStep, is_terminal_failure};
 ghost use Rattle.teco_io.specs.Terminal.{Puts, Shows};
 
@@ -18,6 +20,7 @@ use crate::listener::Listens;
 use crate::served::Served;
 use crate::splitter::Asked;
 use teco_core::Code;
+use teco_exec::{Never, Options, Stop, Watched};
 use teco_io::{Terminal, TerminalFault};
 use teco_session::{Answer, Answered, Request, Session};
 use teco_store::Desk;
@@ -114,6 +117,34 @@ fn repeat<T: Terminal, L: Listens>(
     Ok(())
 }
 
+/// Runs a text until it is asked to stop, and tells where its run last stood.
+fn run_placed<S: Stop, T: Terminal>(
+    text: &[u8],
+    session: &mut Session,
+    limit: u64,
+    stop: &mut S,
+    term: &mut T,
+) -> Answered
+    ensures run { RunsWithin (S.answered stop.new) limit (string_outcome result.answer)
+        (RunsIn T.Terminal (session.old, term.old) (session.new, term.new) text.now result.answer) }
+    ensures still { StillSays (S.answered stop.old) (S.answered stop.new) }
+{
+    let mut watch = Watched::new(session.alloc());
+    let answer = session.run_with(
+        text,
+        term,
+        Options {
+            limit,
+            stop,
+            watch: &mut watch,
+        },
+    );
+    Answered {
+        answer,
+        place: watch.into_place(),
+    }
+}
+
 /// Runs a text. With seconds the alarm is set, and may break it off. Tells where its run last stood where that is wanted.
 fn run_heard<A: Alarm, T: Terminal>(
     text: &[u8],
@@ -132,10 +163,10 @@ fn run_heard<A: Alarm, T: Terminal>(
 {
     if let Some(seconds) = bounds.seconds {
         alarm.set(seconds);
-        return session.run_where_until(text, bounds.steps, alarm, term);
+        return run_placed(text, session, bounds.steps, alarm, term);
     }
     if wants_place {
-        return session.run_where(text, bounds.steps, term);
+        return run_placed(text, session, bounds.steps, &mut Never, term);
     }
     Answered {
         answer: session.run(text, bounds.steps, term),

@@ -1,5 +1,5 @@
 -- Sessions: a string is run.
-use Rattle.std.proofs.Common.{◌≡◌, ℕ, ◌+◌, ◌≤◌, Option, List, [], ◌∷◌, ◌++◌, length, take, drop, reverse, ◌⊎◌, inl, inr, true, false, refl, sym, ◌∙◌, ap, subst, arith, append_assoc, length-append}
+use Rattle.std.proofs.Common.{◌≡◌, ℕ, ◌+◌, ◌≤◌, Option, Some, None, IfSome, List, [], ◌∷◌, ◌++◌, length, take, drop, reverse, ◌⊎◌, inl, inr, true, false, refl, sym, ◌∙◌, ap, subst, arith, append_assoc, length-append}
 use Rattle.std.proofs.lemmas.List.{reverse-append, length-reverse, length-take-le, drop_all, take_all, take_at, take-take, take-append-drop}
 use Rattle.teco_store.specs.State.{State, Body, IsSound, Extends, state_at, state_of}
 use Rattle.teco_undo.specs.Entry.{body_back}
@@ -125,3 +125,8 @@ unbroken limit outcome P r = under_it r.under r.stays r.so
     under_it : (l : ℕ) → (l ≡ limit) ⊎ IsBrokenOff never_asks l outcome → P l → P limit
     under_it l (inl same) so = subst P same so
     under_it l (inr broken) so = let never : true ≡ false = broken.asked in absurd cc
+
+-- What follows of a value follows of the one that there is.
+pub each_some : {A : Type 0} (P Q : A → Type 0) → ((x : A) → P x → Q x) → (o : Option A) → IfSome o P → IfSome o Q
+each_some P Q f None h = tt
+each_some P Q f (Some x) h = f x h

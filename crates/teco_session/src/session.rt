@@ -2,23 +2,25 @@
 ghost use Rattle.std.specs.Prelude.{◌≡◌, ℕ, List, [], ◌<◌, ◌≤◌, length, vec_len, None, Some, IfOk, OnErr, OnOk, IsOk, ◌↔◌, IfSome, Ok, true, false};
 ghost use Rattle.std.specs.Option.{ForSome};
 ghost use Rattle.teco_exec.specs.Runs.{RunsWithin, StillSays};
-ghost use Rattle.teco_exec.specs.Telling.{TellsPlace};
+ghost use Rattle.teco_exec.specs.Options.{stop_left, watch_left};
+ghost use Rattle.teco_exec.specs.Telling.{KnowsLast, TellsPlace};
 ghost use Rattle.teco_store.specs.State.{state_of};
 ghost use Rattle.teco_io.specs.Terminal.{Shows};
 ghost use Rattle.teco_session.specs.Answers.{answer_code, is_unbegun, outcome_of, string_outcome};
 ghost use Rattle.teco_session.specs.Strings.{IsWithinDepth};
 ghost use Rattle.teco_session.specs.History.{IsHistory, new_history, new_paged_history, note_at, present, redone, rewound, state_after, undone, without_undone};
 ghost use Rattle.teco_session.specs.Kept.{IsSession, IsSmall, applied, cut_to, forgotten, history_of, new_paged_session, new_session, reverted, string_at};
+ghost use Rattle.teco_session.specs.RunsIn.{RunsIn};
 ghost use Rattle.teco_session.specs.Step.{Step, RunStep, Reply, is_terminal_failure};
 ghost use Rattle.teco_session.specs.Play.{Play, ShowsAll, answers_of};
 
+use crate::recording::record_run;
 use crate::request::{Answer, Answered, NothingToRedo, NothingToUndo, Request};
-use crate::runner::{Placing, Plain, Runner, record_run};
 use crate::{Changes, Entries, Entry, Text, Turn};
 use std::alloc::Global;
 use std::marker::Model;
 use teco_core::{DEPTH_LIMIT, FILE_LIMIT, NoMemory};
-use teco_exec::{Never, Stop};
+use teco_exec::{Never, Options, Stop, Unwatched, Watch, Watched, run_with};
 use teco_io::Terminal;
 use teco_store::{Desk, Editor, editor_laws};
 use teco_undo::{Recorder, record_laws};
@@ -230,14 +232,61 @@ impl Session {
     /// Where memory is refused for the history the answer is [`Answer::NotBegun`], and after an exit [`Answer::AfterExit`]: then
     /// nothing has changed, and the undone strings are kept. A string that makes the session done ends with no code.
     pub fn run<T: Terminal>(&mut self, text: &[u8], limit: u64, term: &mut T) -> Answer
-        ensures step { (typed : List ℕ)
-            × RunStep limit (history_of self.old) text.now result typed (history_of self.new)
-            × Shows (T.screen term.old) (T.screen term.new) typed (is_terminal_failure result) }
-        ensures exit { (present (history_of self.old)).is_done ≡ false
-            → (present (history_of self.new)).is_done ≡ true → answer_code result ≡ None }
-        ensures same { is_unbegun result ≡ true → self.new ≡ self.old }
+        ensures { RunsIn T.Terminal (self.old, term.old) (self.new, term.new) text.now result limit }
     {
-        self.run_by(text, limit, &mut Never, term, &mut Plain)
+        self.run_with(
+            text,
+            term,
+            Options {
+                limit,
+                stop: &mut Never,
+                watch: &mut Unwatched,
+            },
+        )
+    }
+
+    /// Runs a command string as [`Session::run`] does, by these options. Where it is asked to stop, it is noted as under a limit of the
+    /// steps done. The watch is told where its run last stood: at the token or the fault where it stopped, or at the token whose step
+    /// failed. Of a string that is not begun it is told nothing.
+    pub fn run_with<S: Stop, T: Terminal, W: Watch>(
+        &mut self,
+        text: &[u8],
+        term: &mut T,
+        options: Options<'_, S, W>,
+    ) -> Answer
+        ensures run { RunsWithin (S.answered (stop_left options.exit)) options.entry.limit (string_outcome result)
+            (RunsIn T.Terminal (self.old, term.old) (self.new, term.new) text.now result) }
+        ensures still { StillSays (S.answered options.entry.stop.now) (S.answered (stop_left options.exit)) }
+        ensures told { W.knows options.entry.watch.now None → IfSome (outcome_of result)
+            (KnowsLast (W.knows (watch_left options.exit)) (present (history_of self.old)) text.now) }
+        ensures unbegun { is_unbegun result ≡ true → watch_left options.exit ≡ options.entry.watch.now }
+    {
+        if self.editor().done() {
+            return Answer::AfterExit;
+        }
+        if self.entries.keeps_none() {
+            let editor = self.recorder.editor_mut();
+            let outcome = run_with(editor, text, term, options);
+            editor_laws(editor);
+            return Answer::Ended(outcome);
+        }
+        let alloc = self.entries.alloc();
+        let Ok(kept) = Text::copied(alloc, text) else {
+            return Answer::NotBegun;
+        };
+        if self.entries.reserve().is_err() {
+            return Answer::NotBegun;
+        }
+        record_laws();
+        self.entries.truncate(self.cursor);
+        let (changes, outcome) = record_run(&mut self.recorder, text, term, options);
+        self.entries.note(Entry {
+            text: kept,
+            steps: outcome.steps,
+            changes: Changes::of(changes),
+        });
+        self.cursor = self.entries.len();
+        Answer::Ended(outcome)
     }
 
     /// Runs a command string as [`Session::run`] does, until it is asked to stop. It is noted then as under a limit of the steps done.
@@ -256,7 +305,15 @@ impl Session {
             → (present (history_of self.new)).is_done ≡ true → answer_code result ≡ None }
         ensures same { is_unbegun result ≡ true → self.new ≡ self.old }
     {
-        self.run_by(text, limit, stop, term, &mut Plain)
+        self.run_with(
+            text,
+            term,
+            Options {
+                limit,
+                stop,
+                watch: &mut Unwatched,
+            },
+        )
     }
 
     /// Runs a command string just as [`Session::run`] does, and tells where its run last stood: at the token or the fault where it
@@ -294,64 +351,25 @@ impl Session {
             → (present (history_of self.new)).is_done ≡ true → answer_code result.answer ≡ None }
         ensures same { is_unbegun result.answer ≡ true → self.new ≡ self.old }
     {
-        let alloc = self.entries.alloc();
-        let mut placing = Placing {
-            alloc,
-            place: Ok(None),
-        };
-        let answer = self.run_by(text, limit, stop, term, &mut placing);
+        let mut watch = Watched::new(self.alloc());
+        let answer = self.run_with(
+            text,
+            term,
+            Options {
+                limit,
+                stop,
+                watch: &mut watch,
+            },
+        );
         Answered {
             answer,
-            place: placing.place,
+            place: watch.into_place(),
         }
     }
 
-    /// Runs a command string as `run_until` does, by this runner.
-    fn run_by<S: Stop, T: Terminal, R: Runner>(
-        &mut self,
-        text: &[u8],
-        limit: u64,
-        stop: &mut S,
-        term: &mut T,
-        runner: &mut R,
-    ) -> Answer
-        ensures tells { IfSome (outcome_of result)
-            (λ outcome. R.tells runner.new (present (history_of self.old)) text.now outcome) }
-        ensures unbegun { is_unbegun result ≡ true → runner.new ≡ runner.old }
-        ensures step { RunsWithin (S.answered stop.new) limit (string_outcome result) (λ l. (typed : List ℕ)
-            × RunStep l (history_of self.old) text.now result typed (history_of self.new)
-            × Shows (T.screen term.old) (T.screen term.new) typed (is_terminal_failure result)) }
-        ensures still { StillSays (S.answered stop.old) (S.answered stop.new) }
-        ensures exit { (present (history_of self.old)).is_done ≡ false
-            → (present (history_of self.new)).is_done ≡ true → answer_code result ≡ None }
-        ensures same { is_unbegun result ≡ true → self.new ≡ self.old }
-    {
-        if self.editor().done() {
-            return Answer::AfterExit;
-        }
-        if self.entries.keeps_none() {
-            let editor = self.recorder.editor_mut();
-            let outcome = runner.run_on(editor, text, limit, stop, term);
-            editor_laws(editor);
-            return Answer::Ended(outcome);
-        }
-        let alloc = self.entries.alloc();
-        let Ok(kept) = Text::copied(alloc, text) else {
-            return Answer::NotBegun;
-        };
-        if self.entries.reserve().is_err() {
-            return Answer::NotBegun;
-        }
-        record_laws();
-        self.entries.truncate(self.cursor);
-        let (changes, outcome) = record_run(&mut self.recorder, text, limit, stop, term, runner);
-        self.entries.note(Entry {
-            text: kept,
-            steps: outcome.steps,
-            changes: Changes::of(changes),
-        });
-        self.cursor = self.entries.len();
-        Answer::Ended(outcome)
+    /// Where the session finds its memory.
+    pub fn alloc(&self) -> Global {
+        self.entries.alloc()
     }
 
     /// Answers one request, whichever it is.

@@ -1,5 +1,5 @@
 use Rattle.teco_exec.proofs.Continuations.{unbroken}
 use Rattle.teco_exec.proofs.running.run.Goals as goal
 
-pub returns-clause-run : goal.returns-clause-run
-returns-clause-run g c = unbroken c.args.limit _ _ c.run_watched.ensures.run
+pub returns : goal.returns
+returns g c = unbroken c.args.limit _ _ c.run_with.ensures.run

@@ -4,7 +4,7 @@ use super::strings::is_code;
 use super::{breaks, faults};
 use crate::tests::bytes::{Screen, is, is_typed};
 use crate::tests::rows::{Cells, Rule, all_hold, cells_of, number_or};
-use crate::tests::session::requests::{Over, Trial, broken_off, holds_once};
+use crate::tests::session::requests::{Over, Trial, broken_off, holds_once, placed};
 use std::alloc::Global;
 use std::test::*;
 use teco_exec::{Never, Stop};
@@ -99,7 +99,7 @@ impl Trial for By<'_> {
         let By(cells, asking, tells) = self;
         let (text, limit) = (cells[0].as_bytes(), number_or(cells[1], 1000));
         let answered = match asking {
-            None => session.run_where(text, limit, term),
+            None => placed(session, text, limit, &mut Never, term),
             Some(asking) => broken_off(session, text, limit, *asking, *tells, term),
         };
         match answered.answer {

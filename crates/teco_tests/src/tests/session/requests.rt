@@ -8,6 +8,7 @@ use crate::tests::rows::{Cells, LINE, cells_of, halves_at, is_row, number_or, te
 use std::alloc::Global;
 use std::fmt::Write;
 use teco_core::{Code, DEPTH_LIMIT, FILE_LIMIT};
+use teco_exec::{Options, Stop, Unwatched, Watched};
 use teco_session::{Answer, Answered, Session};
 use teco_store::{ChangeKind, Desk, Editor};
 
@@ -54,12 +55,37 @@ pub(crate) fn broken_off(
     term: &mut Screen,
 ) -> Answered {
     if tells {
-        return session.run_where_until(text, limit, &mut asking, term);
+        return placed(session, text, limit, &mut asking, term);
     }
-    let answer = session.run_until(text, limit, &mut asking, term);
+    let options = Options {
+        limit,
+        stop: &mut asking,
+        watch: &mut Unwatched,
+    };
+    Answered {
+        answer: session.run_with(text, term, options),
+        place: Ok(None),
+    }
+}
+
+/// Runs a string until it is asked to stop, and tells where its run last stood.
+pub(crate) fn placed<S: Stop>(
+    session: &mut Session,
+    text: &[u8],
+    limit: u64,
+    stop: &mut S,
+    term: &mut Screen,
+) -> Answered {
+    let mut watch = Watched::new(session.alloc());
+    let options = Options {
+        limit,
+        stop,
+        watch: &mut watch,
+    };
+    let answer = session.run_with(text, term, options);
     Answered {
         answer,
-        place: Ok(None),
+        place: watch.into_place(),
     }
 }
 

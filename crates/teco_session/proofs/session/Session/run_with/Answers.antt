@@ -1,4 +1,4 @@
-use Rattle.std.proofs.Common.{◌≡◌, ℕ, inl, arith, Option, List, [], ◌++◌, ◌∷◌, take, sym, ap, ◌∙◌, subst, refl, false}
+use Rattle.std.proofs.Common.{◌≡◌, ℕ, inl, arith, Option, List, [], ◌++◌, ◌∷◌, take, sym, ap, ◌∙◌, subst, refl, true, false}
 use Rattle.std.proofs.lemmas.Bool.{false≢true}
 use Rattle.teco_exec.specs.StringMeaning.{string_meaning}
 use Rattle.teco_exec.specs.Runs.{Answers, Runs, RunsWithin, StillSays}
@@ -16,8 +16,8 @@ use Rattle.teco_session.proofs.Histories.{Shows-nil}
 use Rattle.teco_session.proofs.Records.{kept_run}
 use Rattle.teco_session.proofs.Turning.{present_is}
 use Rattle.teco_session.proofs.Sessions.{Ran, Went, session_noted, session_went, session_with}
-use Rattle.teco_session.proofs.session.Session.run_by.Given as given
-use Rattle.teco_session.proofs.session.Session.run_by.Goals as goal
+use Rattle.teco_session.proofs.session.Session.run_with.Given as given
+use Rattle.teco_session.proofs.session.Session.run_with.Goals as goal
 
 -- What is not begun is not broken off.
 whole : {answered : Answers} {limit : ℕ} {outcome : Outcome} (P : ℕ → Type 0) → outcome.steps ≡ 0 → P limit → RunsWithin answered limit outcome P
@@ -31,27 +31,10 @@ same_history f xs ys c d e s same depth view = ap (λ (zs : List KeptString). hi
 same_session : (f : Full) (xs ys : List KeptString) (c : ℕ) (d e : Option ℕ) (s : KeptSession) → ys ≡ xs → e ≡ d → session_with f xs c d ≡ s → session_with f ys c e ≡ s
 same_session f xs ys c d e s same depth view = ap (λ (zs : List KeptString). session_with f zs c e) same ∙ ap (λ (k : Option ℕ). session_with f xs c k) depth ∙ view
 
-pub returns-then-is_err-clause-same : goal.returns-then-is_err-clause-same
-returns-then-is_err-clause-same g c unbegun =
-    same_session c.self.inside.recorder.full _ _ c.self.inside.cursor _ _ c.args.self.now c.reserve.ensures.strings c.reserve.ensures.depth c.self.view_is
-
 pub invariant_of-self-then-is_err : goal.invariant_of-self-then-is_err
 invariant_of-self-then-is_err g c =
     let same = same_session c.self.inside.recorder.full _ _ c.self.inside.cursor _ _ (kept_session c.self.inside) c.reserve.ensures.strings c.reserve.ensures.depth refl in
     subst IsSession (sym same) c.self.invariant
-
--- What is not begun leaves the session and the runner as they were, and what ends was begun.
-pub returns-then-done-clause-same : goal.returns-then-done-clause-same
-returns-then-done-clause-same g c unbegun = refl
-
-pub returns-in_default-clause-same : goal.returns-in_default-clause-same
-returns-in_default-clause-same g c unbegun = refl
-
-pub returns-then-keeps_none-clause-same : goal.returns-then-keeps_none-clause-same
-returns-then-keeps_none-clause-same g c begun = absurd (false≢true begun)
-
-pub returns-clause-same : goal.returns-clause-same
-returns-clause-same g c begun = absurd (false≢true begun)
 
 pub returns-then-done-clause-unbegun : goal.returns-then-done-clause-unbegun
 returns-then-done-clause-unbegun g c unbegun = refl
@@ -81,34 +64,44 @@ returns-in_default-clause-still g c = unasked
 pub returns-then-is_err-clause-still : goal.returns-then-is_err-clause-still
 returns-then-is_err-clause-still g c = unasked
 
+-- What is not begun leaves the watch as it was, and is told of nothing.
+pub returns-then-done-clause-told : goal.returns-then-done-clause-told
+returns-then-done-clause-told g c knows = tt
+
+pub returns-in_default-clause-told : goal.returns-in_default-clause-told
+returns-in_default-clause-told g c knows = tt
+
+pub returns-then-is_err-clause-told : goal.returns-then-is_err-clause-told
+returns-then-is_err-clause-told g c knows = tt
+
 -- A string that is not begun changes nothing.
-pub returns-then-done-clause-step : goal.returns-then-done-clause-step
-returns-then-done-clause-step g c = whole _ refl ([], (ap (λ (s : State). s.is_done) (sym c.editor.ensures.present) ∙ sym c.done.ensures ∙ c.if-done.true, refl, refl), Shows-nil _)
+pub returns-then-done-clause-run : goal.returns-then-done-clause-run
+returns-then-done-clause-run g c =
+    let done : (present (history_of c.args.self.now)).is_done ≡ true = ap (λ (s : State). s.is_done) (sym c.editor.ensures.present) ∙ sym c.done.ensures ∙ c.if-done.true in
+    whole _ refl (record {
+      step = ([], (done, refl, refl), Shows-nil _);
+      exit = λ going over. absurd (false≢true (sym going ∙ over));
+      same = λ unbegun. refl;
+    })
 
-pub returns-then-done-clause-exit : goal.returns-then-done-clause-exit
-returns-then-done-clause-exit g c = λ going over. absurd (false≢true (sym going ∙ over))
+pub returns-in_default-clause-run : goal.returns-in_default-clause-run
+returns-in_default-clause-run g c =
+    let going : (present (history_of c.args.self.now)).is_done ≡ false = ap (λ (s : State). s.is_done) (sym c.editor.ensures.present) ∙ sym c.done.ensures ∙ c.if-done.false in
+    whole _ refl (record {
+      step = ([], (going, refl, refl), Shows-nil _);
+      exit = λ going over. absurd (false≢true (sym going ∙ over));
+      same = λ unbegun. refl;
+    })
 
-pub returns-in_default-clause-step : goal.returns-in_default-clause-step
-returns-in_default-clause-step g c = whole _ refl ([], (ap (λ (s : State). s.is_done) (sym c.editor.ensures.present) ∙ sym c.done.ensures ∙ c.if-done.false, refl, refl), Shows-nil _)
-
-pub returns-in_default-clause-exit : goal.returns-in_default-clause-exit
-returns-in_default-clause-exit g c = λ going over. absurd (false≢true (sym going ∙ over))
-
-pub returns-then-is_err-clause-step : goal.returns-then-is_err-clause-step
-returns-then-is_err-clause-step g c = whole _ refl (
-  [],
-  (
-    ap (λ (s : State). s.is_done) (sym c.editor.ensures.present) ∙ sym c.done.ensures ∙ c.if-done.false,
-    refl,
-    same_history c.self.inside.recorder.full _ _ c.self.inside.cursor _ _ c.args.self.now c.reserve.ensures.strings c.reserve.ensures.depth c.self.view_is,
-  ),
-  Shows-nil _,
-)
-
-pub returns-then-is_err-clause-exit : goal.returns-then-is_err-clause-exit
-returns-then-is_err-clause-exit g c = λ going over.
+pub returns-then-is_err-clause-run : goal.returns-then-is_err-clause-run
+returns-then-is_err-clause-run g c =
+    let going : (present (history_of c.args.self.now)).is_done ≡ false = ap (λ (s : State). s.is_done) (sym c.editor.ensures.present) ∙ sym c.done.ensures ∙ c.if-done.false in
     let same = same_history c.self.inside.recorder.full _ _ c.self.inside.cursor _ _ c.args.self.now c.reserve.ensures.strings c.reserve.ensures.depth c.self.view_is in
-    absurd (false≢true (sym going ∙ sym (ap (λ (h : History). (present h).is_done) same) ∙ over))
+    whole _ refl (record {
+      step = ([], (going, refl, same), Shows-nil _);
+      exit = λ going over. absurd (false≢true (sym going ∙ sym (ap (λ (h : History). (present h).is_done) same) ∙ over));
+      same = λ unbegun. same_session c.self.inside.recorder.full _ _ c.self.inside.cursor _ _ c.args.self.now c.reserve.ensures.strings c.reserve.ensures.depth c.self.view_is;
+    })
 
 -- the entry that is added
 abbrev entry_now : (g : given.Over) (c : goal.After-self-2-1 g) → Entry
@@ -142,14 +135,16 @@ state_now g c = sym (present_is (kept_session c.self.inside) c.self.invariant.wi
 pub invariant_of-self-2 : goal.invariant_of-self-2
 invariant_of-self-2 g c = (ran_now g c).holds
 
-pub returns-clause-step : goal.returns-clause-step
-returns-clause-step g c =
+pub returns-clause-run : goal.returns-clause-run
+returns-clause-run g c =
     let under = c.record_run-changes.ensures.run in
     let ran = under.so in
     let old = history_of c.args.self.now in
     let new = state_of c.record_run-changes.new.recorder.full in
     let k = c.record_run-changes.result.1.steps in
     let here = state_now g c in
+    let done = λ (s : State). s.is_done in
+    let last = present_is (session_now g c) (ran_now g c).holds.within in
     let going : (present old).is_done ≡ false = ap (λ (s : State). s.is_done) (sym c.editor.ensures.present) ∙ sym c.done.ensures ∙ c.if-done.false in
     let run = subst (λ (s : State). Runs s c.args.text.now under.under c.record_run-changes.result.1 ran.0 new) here ran.1 in
     let text = ap (λ (t : List ℕ). noted old (record { text = t; steps = k; state = new })) c.in-Ok.ensures.value in
@@ -158,59 +153,55 @@ returns-clause-step g c =
       within = under.within;
       stays = under.stays;
       heard = under.heard;
-      so = (ran.0, (new, going, run, (ran_now g c).history ∙ ap (λ (s : KeptSession). noted (history_of s) (noted_as (kept_string (entry_now g c)) new)) c.self.view_is ∙ text), ran.2);
+      so = record {
+        step = (ran.0, (new, going, run, (ran_now g c).history ∙ ap (λ (s : KeptSession). noted (history_of s) (noted_as (kept_string (entry_now g c)) new)) c.self.view_is ∙ text), ran.2);
+        exit = λ going over. c.record_run-changes.ensures.exit (ap done (state_now g c) ∙ going) (sym (ap done last) ∙ over);
+        same = λ begun. absurd (false≢true begun);
+      };
     }
 
-pub returns-clause-exit : goal.returns-clause-exit
-returns-clause-exit g c = λ going over.
-    let done = λ (s : State). s.is_done in
-    let last = present_is (session_now g c) (ran_now g c).holds.within in
-    c.record_run-changes.ensures.exit (ap done (state_now g c) ∙ going) (sym (ap done last) ∙ over)
-
-pub returns-clause-tells : goal.returns-clause-tells
-returns-clause-tells g c =
-    subst (λ (s : State). g.R.Runner.tells c.record_run-changes.new.runner s c.args.text.now c.record_run-changes.result.1) (state_now g c) c.record_run-changes.ensures.tells
+pub returns-clause-told : goal.returns-clause-told
+returns-clause-told g c knows = rw (sym (state_now g c)) (c.record_run-changes.ensures.told knows)
 
 -- With a depth of 0 nothing is noted.
 lent_now : (g : given.Over) (c : goal.After-self-1 g) → state_of c.editor_mut-editor.result.now ≡ present (history_of c.args.self.now)
 lent_now g c =
     ap state_of c.editor_mut-editor.ensures.value ∙ sym (present_is (kept_session c.self.inside) c.self.invariant.within) ∙ ap (λ (s : KeptSession). present (history_of s)) c.self.view_is
 
-went_now : (g : given.Over) (c : goal.After-self-1 g) → Went (kept_session c.self.inside) (session_with c.run_on-outcome.new.desk (strings_of c.self.inside.entries) c.self.inside.cursor (depth_of c.self.inside.entries))
-    (record { text = c.args.text.now; steps = c.run_on-outcome.result.steps; state = state_of c.run_on-outcome.new.desk })
+went_now : (g : given.Over) (c : goal.After-self-1 g) → Went (kept_session c.self.inside) (session_with c.run_with-outcome.new.desk (strings_of c.self.inside.entries) c.self.inside.cursor (depth_of c.self.inside.entries))
+    (record { text = c.args.text.now; steps = c.run_with-outcome.result.steps; state = state_of c.run_with-outcome.new.desk })
 went_now g c =
     let kept = c.if-keeps_none.true in
-    session_went (kept_session c.self.inside) c.run_on-outcome.new.desk c.args.text.now c.run_on-outcome.result.steps (sym c.keeps_none.ensures.depth ∙ kept) (c.keeps_none.ensures.none kept)
+    session_went (kept_session c.self.inside) c.run_with-outcome.new.desk c.args.text.now c.run_with-outcome.result.steps (sym c.keeps_none.ensures.depth ∙ kept) (c.keeps_none.ensures.none kept)
     c.self.invariant c.editor_laws.ensures.sound
-    (c.run_on-outcome.ensures.again ∙ ap (λ (f : Full). (string_meaning (state_of f) c.args.text.now c.run_on-outcome.result.steps).state) c.editor_mut-editor.ensures.value)
+    (c.run_with-outcome.ensures.run.so.again ∙ ap (λ (f : Full). (string_meaning (state_of f) c.args.text.now c.run_with-outcome.result.steps).state) c.editor_mut-editor.ensures.value)
 
 pub invariant_of-self : goal.invariant_of-self
 invariant_of-self g c = (went_now g c).holds
 
-pub returns-then-keeps_none-clause-step : goal.returns-then-keeps_none-clause-step
-returns-then-keeps_none-clause-step g c =
-    let under = c.run_on-outcome.ensures.run in
-    let ran = under.so in
+pub returns-then-keeps_none-clause-run : goal.returns-then-keeps_none-clause-run
+returns-then-keeps_none-clause-run g c =
+    let under = c.run_with-outcome.ensures.run in
+    let ran = under.so.run in
     let old = history_of c.args.self.now in
-    let new = state_of c.run_on-outcome.new.desk in
+    let new = state_of c.run_with-outcome.new.desk in
     let here = lent_now g c in
+    let done = λ (s : State). s.is_done in
+    let last = present_is (session_with c.run_with-outcome.new.desk (strings_of c.self.inside.entries) c.self.inside.cursor (depth_of c.self.inside.entries)) (went_now g c).holds.within in
     let going : (present old).is_done ≡ false = ap (λ (s : State). s.is_done) (sym c.editor.ensures.present) ∙ sym c.done.ensures ∙ c.if-done.false in
-    let run = subst (λ (s : State). Runs s c.args.text.now under.under c.run_on-outcome.result ran.0 new) here ran.1 in
-    let note : NotedString = record { text = c.args.text.now; steps = c.run_on-outcome.result.steps; state = new } in
+    let run = subst (λ (s : State). Runs s c.args.text.now under.under c.run_with-outcome.result ran.0 new) here ran.1 in
+    let note : NotedString = record { text = c.args.text.now; steps = c.run_with-outcome.result.steps; state = new } in
     record {
       under = under.under;
       within = under.within;
       stays = under.stays;
       heard = under.heard;
-      so = (ran.0, (new, going, run, (went_now g c).history ∙ ap (λ (s : KeptSession). noted (history_of s) note) c.self.view_is), ran.2);
+      so = record {
+        step = (ran.0, (new, going, run, (went_now g c).history ∙ ap (λ (s : KeptSession). noted (history_of s) note) c.self.view_is), ran.2);
+        exit = λ going over. under.so.exit (ap done (lent_now g c) ∙ going) (sym (ap done last) ∙ over);
+        same = λ begun. absurd (false≢true begun);
+      };
     }
 
-pub returns-then-keeps_none-clause-exit : goal.returns-then-keeps_none-clause-exit
-returns-then-keeps_none-clause-exit g c = λ going over.
-    let done = λ (s : State). s.is_done in
-    let last = present_is (session_with c.run_on-outcome.new.desk (strings_of c.self.inside.entries) c.self.inside.cursor (depth_of c.self.inside.entries)) (went_now g c).holds.within in
-    c.run_on-outcome.ensures.exit (ap done (lent_now g c) ∙ going) (sym (ap done last) ∙ over)
-
-pub returns-then-keeps_none-clause-tells : goal.returns-then-keeps_none-clause-tells
-returns-then-keeps_none-clause-tells g c =
-    subst (λ (s : State). g.R.Runner.tells c.run_on-outcome.new.self s c.args.text.now c.run_on-outcome.result) (lent_now g c) c.run_on-outcome.ensures.tells
+pub returns-then-keeps_none-clause-told : goal.returns-then-keeps_none-clause-told
+returns-then-keeps_none-clause-told g c knows = rw (sym (lent_now g c)) (c.run_with-outcome.ensures.told knows)

@@ -1,0 +1,21 @@
+use Rattle.std.proofs.Common.{None, sym, subst}
+use Rattle.teco_exec.specs.Watching.{Knows}
+use Rattle.teco_exec.specs.Telling.{KnowsLast, TellsPlace}
+use Rattle.teco_session.specs.Answers.{outcome_of}
+use Rattle.teco_session.specs.History.{present}
+use Rattle.teco_session.specs.Kept.{history_of}
+use Rattle.teco_session.proofs.Running.{each_some}
+use Rattle.teco_session.proofs.session.Session.run_where_until.Goals as goal
+
+pub returns-clause-step : goal.returns-clause-step
+returns-clause-step g c =
+    let ran = c.run_with-answer.ensures.run in
+    record { under = ran.under; within = ran.within; stays = ran.stays; heard = ran.heard; so = ran.so.step }
+
+pub returns-clause-place : goal.returns-clause-place
+returns-clause-place g c =
+    each_some _ _ (c.into_place.ensures.told (present (history_of c.args.self.now)) c.args.text.now) (outcome_of c.run_with-answer.result) (c.run_with-answer.ensures.told c.new-watch.ensures)
+
+pub returns-clause-unbegun : goal.returns-clause-unbegun
+returns-clause-unbegun g c unbegun =
+    c.into_place.ensures.none (subst (λ w. Knows w None) (sym (c.run_with-answer.ensures.unbegun unbegun)) c.new-watch.ensures)
