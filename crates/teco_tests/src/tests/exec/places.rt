@@ -34,10 +34,10 @@ const ROWS: &str = "
     @^UA/1+5J/2<MA> => 8 => POP => 8 => 7 3 [] [Call { register: Reg { index: 0 }, at: 12, turns: [Some(1)] }] None
     @^UA/1+5J/2<MA> => 99 => POP => 8 => 7 3 [] [Call { register: Reg { index: 0 }, at: 12, turns: [Some(1)] }] None
     // A fault uses no step.
-    @^UA/1===/2<MA> => 5 => ILL => 5 => 5 1 [] [Call { register: Reg { index: 0 }, at: 12, turns: [Some(1)] }] Some(Fault { at: 1, opened: None, code: Ill })
-    @^UA/1===/2<MA> => 99 => ILL => 5 => 5 1 [] [Call { register: Reg { index: 0 }, at: 12, turns: [Some(1)] }] Some(Fault { at: 1, opened: None, code: Ill })
-    7=Iab => 99 => UTC => 2 => 2 2 [] [] Some(Fault { at: 2, opened: None, code: Utc })
-    2<1\"G'|> => 99 => ILL => 4 => 4 6 [Some(1)] [] Some(Fault { at: 6, opened: None, code: Ill })
+    @^UA/1===/2<MA> => 5 => ILL => 5 => 5 1 [] [Call { register: Reg { index: 0 }, at: 12, turns: [Some(1)] }] Some(ListFault { at: 1, opened: None, code: Ill })
+    @^UA/1===/2<MA> => 99 => ILL => 5 => 5 1 [] [Call { register: Reg { index: 0 }, at: 12, turns: [Some(1)] }] Some(ListFault { at: 1, opened: None, code: Ill })
+    7=Iab => 99 => UTC => 2 => 2 2 [] [] Some(ListFault { at: 2, opened: None, code: Utc })
+    2<1\"G'|> => 99 => ILL => 4 => 4 6 [Some(1)] [] Some(ListFault { at: 6, opened: None, code: Ill })
     // A step that fails in an iteration, in a conditional, and in its second part.
     @S/x/ => 99 => SRH => 1 => 0 0 [] [] None
     <@S/x/1=> => 99 => SRH => 2 => 1 1 [None] [] None
@@ -50,17 +50,17 @@ const ROWS: &str = "
     1,2<=> => 99 => ARG => 4 => 3 3 [] [] None
     \"G' => 99 => NAQ => 1 => 0 0 [] [] None
     3<\"G'> => 99 => NAQ => 3 => 2 2 [Some(2)] [] None
-    0<?> => 99 => ILL => 2 => 1 1 [] [] Some(Fault { at: 2, opened: None, code: Ill })
+    0<?> => 99 => ILL => 2 => 1 1 [] [] Some(ListFault { at: 2, opened: None, code: Ill })
     // A jump that finds no tag, and `;` where it can't leave: the blocks around are told.
     2<1\"G@O/x/'> => 99 => TAG => 5 => 4 5 [Some(1)] [] None
     @^UB;@O/x/;@^UA/3<MB>/MA => 99 => TAG => 7 => 6 0 [] [Call { register: Reg { index: 1 }, at: 2, turns: [Some(2)] }, Call { register: Reg { index: 0 }, at: 22, turns: [] }] None
     @^UA/;/<MA> => 3 => LIM => 3 => 3 0 [] [Call { register: Reg { index: 0 }, at: 8, turns: [None] }] None
     @^UA/;/<MA> => 99 => SNI => 4 => 3 0 [] [Call { register: Reg { index: 0 }, at: 8, turns: [None] }] None
     1\"G;' => 99 => SNI => 3 => 2 3 [] [] None
-    3<1; => 99 => UTC => 4 => 3 3 [Some(2)] [] Some(Fault { at: 4, opened: Some(1), code: Utc })
-    3<1\"G1;' => 99 => UTC => 6 => 5 6 [Some(2)] [] Some(Fault { at: 8, opened: Some(1), code: Utc })
+    3<1; => 99 => UTC => 4 => 3 3 [Some(2)] [] Some(ListFault { at: 4, opened: Some(1), code: Utc })
+    3<1\"G1;' => 99 => UTC => 6 => 5 6 [Some(2)] [] Some(ListFault { at: 8, opened: Some(1), code: Utc })
     // One block or call too many, and further steps of a token.
-    <<<<<<<<<<<<<<<<<<<<<<<<<<<<<<<<<<<<<<<<<<<<<<<<<<<<<<<<<<<<<<<<< => 99 => PDO => 64 => 64 64 [None, None, None, None, None, None, None, None, None, None, None, None, None, None, None, None, None, None, None, None, None, None, None, None, None, None, None, None, None, None, None, None, None, None, None, None, None, None, None, None, None, None, None, None, None, None, None, None, None, None, None, None, None, None, None, None, None, None, None, None, None, None, None, None] [] Some(Fault { at: 64, opened: None, code: Pdo })
+    <<<<<<<<<<<<<<<<<<<<<<<<<<<<<<<<<<<<<<<<<<<<<<<<<<<<<<<<<<<<<<<<< => 99 => PDO => 64 => 64 64 [None, None, None, None, None, None, None, None, None, None, None, None, None, None, None, None, None, None, None, None, None, None, None, None, None, None, None, None, None, None, None, None, None, None, None, None, None, None, None, None, None, None, None, None, None, None, None, None, None, None, None, None, None, None, None, None, None, None, None, None, None, None, None, None] [] Some(ListFault { at: 64, opened: None, code: Pdo })
     @^UA/MA/MA => 99 => PDO => 34 => 33 0 [] [Call { register: Reg { index: 0 }, at: 0, turns: [] }, Call { register: Reg { index: 0 }, at: 0, turns: [] }, Call { register: Reg { index: 0 }, at: 0, turns: [] }, Call { register: Reg { index: 0 }, at: 0, turns: [] }, Call { register: Reg { index: 0 }, at: 0, turns: [] }, Call { register: Reg { index: 0 }, at: 0, turns: [] }, Call { register: Reg { index: 0 }, at: 0, turns: [] }, Call { register: Reg { index: 0 }, at: 0, turns: [] }, Call { register: Reg { index: 0 }, at: 0, turns: [] }, Call { register: Reg { index: 0 }, at: 0, turns: [] }, Call { register: Reg { index: 0 }, at: 0, turns: [] }, Call { register: Reg { index: 0 }, at: 0, turns: [] }, Call { register: Reg { index: 0 }, at: 0, turns: [] }, Call { register: Reg { index: 0 }, at: 0, turns: [] }, Call { register: Reg { index: 0 }, at: 0, turns: [] }, Call { register: Reg { index: 0 }, at: 0, turns: [] }, Call { register: Reg { index: 0 }, at: 0, turns: [] }, Call { register: Reg { index: 0 }, at: 0, turns: [] }, Call { register: Reg { index: 0 }, at: 0, turns: [] }, Call { register: Reg { index: 0 }, at: 0, turns: [] }, Call { register: Reg { index: 0 }, at: 0, turns: [] }, Call { register: Reg { index: 0 }, at: 0, turns: [] }, Call { register: Reg { index: 0 }, at: 0, turns: [] }, Call { register: Reg { index: 0 }, at: 0, turns: [] }, Call { register: Reg { index: 0 }, at: 0, turns: [] }, Call { register: Reg { index: 0 }, at: 0, turns: [] }, Call { register: Reg { index: 0 }, at: 0, turns: [] }, Call { register: Reg { index: 0 }, at: 0, turns: [] }, Call { register: Reg { index: 0 }, at: 0, turns: [] }, Call { register: Reg { index: 0 }, at: 0, turns: [] }, Call { register: Reg { index: 0 }, at: 0, turns: [] }, Call { register: Reg { index: 0 }, at: 8, turns: [] }] None
     3P => 2 => LIM => 2 => 2 1 [] [] None
     3P => 3 => LIM => 3 => 3 1 [] [] None
