@@ -10,7 +10,7 @@ use crate::frames::{OpenCall, tell_place};
 use crate::places::{told_at, told_calls};
 use crate::room::Room;
 use crate::stopper::Stopper;
-use teco_exec::{Never, Stop};
+use teco_exec::{Never, Options, Stop, Watched};
 use teco_session::{Answered, Session};
 
 /// What a run is given, and what it tells. The first four are the caller's, and the rest is what the run tells.
@@ -51,7 +51,17 @@ fn run_on<S: Stop>(
         (take term.new.count term.new.room.now) session.new }
     ensures place { IsWhere session.old text.now result.answer result.place }
 {
-    session.run_where_until(text, limit, stop, term)
+    let mut watch = Watched::new(session.alloc());
+    let options = Options {
+        limit,
+        stop,
+        watch: &mut watch,
+    };
+    let answer = session.run_with(text, term, options);
+    Answered {
+        answer,
+        place: watch.into_place(),
+    }
 }
 
 /// Runs a string over a room until it is asked to stop, and tells where it stopped and how many bytes were typed.

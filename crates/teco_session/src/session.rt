@@ -3,24 +3,24 @@ ghost use Rattle.std.specs.Prelude.{◌≡◌, ℕ, List, [], ◌<◌, ◌≤◌
 ghost use Rattle.std.specs.Option.{ForSome};
 ghost use Rattle.teco_exec.specs.Runs.{RunsWithin, StillSays};
 ghost use Rattle.teco_exec.specs.Options.{stop_left, watch_left};
-ghost use Rattle.teco_exec.specs.Telling.{KnowsLast, TellsPlace};
+ghost use Rattle.teco_exec.specs.Telling.{KnowsLast};
 ghost use Rattle.teco_store.specs.State.{state_of};
 ghost use Rattle.teco_io.specs.Terminal.{Shows};
-ghost use Rattle.teco_session.specs.Answers.{answer_code, is_unbegun, outcome_of, string_outcome};
+ghost use Rattle.teco_session.specs.Answers.{is_unbegun, outcome_of, string_outcome};
 ghost use Rattle.teco_session.specs.Strings.{IsWithinDepth};
 ghost use Rattle.teco_session.specs.History.{IsHistory, new_history, new_paged_history, note_at, present, redone, rewound, state_after, undone, without_undone};
 ghost use Rattle.teco_session.specs.Kept.{IsSession, IsSmall, applied, cut_to, forgotten, history_of, new_paged_session, new_session, reverted, string_at};
 ghost use Rattle.teco_session.specs.RunsIn.{RunsIn};
-ghost use Rattle.teco_session.specs.Step.{Step, RunStep, Reply, is_terminal_failure};
+ghost use Rattle.teco_session.specs.Step.{Step, Reply, is_terminal_failure};
 ghost use Rattle.teco_session.specs.Play.{Play, ShowsAll, answers_of};
 
 use crate::recording::record_run;
-use crate::request::{Answer, Answered, NothingToRedo, NothingToUndo, Request};
+use crate::request::{Answer, NothingToRedo, NothingToUndo, Request};
 use crate::{Changes, Entries, Entry, Text, Turn};
 use std::alloc::Global;
 use std::marker::Model;
 use teco_core::{DEPTH_LIMIT, FILE_LIMIT, NoMemory};
-use teco_exec::{Never, Options, Stop, Unwatched, Watch, Watched, run_with};
+use teco_exec::{Never, Options, Stop, Unwatched, Watch, run_with};
 use teco_io::Terminal;
 use teco_store::{Desk, Editor, editor_laws};
 use teco_undo::{Recorder, record_laws};
@@ -287,84 +287,6 @@ impl Session {
         });
         self.cursor = self.entries.len();
         Answer::Ended(outcome)
-    }
-
-    /// Runs a command string as [`Session::run`] does, until it is asked to stop. It is noted then as under a limit of the steps done.
-    pub fn run_until<S: Stop, T: Terminal>(
-        &mut self,
-        text: &[u8],
-        limit: u64,
-        stop: &mut S,
-        term: &mut T,
-    ) -> Answer
-        ensures step { RunsWithin (S.answered stop.new) limit (string_outcome result) (λ l. (typed : List ℕ)
-            × RunStep l (history_of self.old) text.now result typed (history_of self.new)
-            × Shows (T.screen term.old) (T.screen term.new) typed (is_terminal_failure result)) }
-        ensures still { StillSays (S.answered stop.old) (S.answered stop.new) }
-        ensures exit { (present (history_of self.old)).is_done ≡ false
-            → (present (history_of self.new)).is_done ≡ true → answer_code result ≡ None }
-        ensures same { is_unbegun result ≡ true → self.new ≡ self.old }
-    {
-        self.run_with(
-            text,
-            term,
-            Options {
-                limit,
-                stop,
-                watch: &mut Unwatched,
-            },
-        )
-    }
-
-    /// Runs a command string just as [`Session::run`] does, and tells where its run last stood: at the token or the fault where it
-    /// stopped, or at the token whose step failed. The place takes memory, for at most 33 texts with at most 64 iterations each.
-    pub fn run_where<T: Terminal>(&mut self, text: &[u8], limit: u64, term: &mut T) -> Answered
-        ensures place { IfSome (outcome_of result.answer)
-            (λ outcome. TellsPlace (present (history_of self.old)) text.now outcome result.place) }
-        ensures unbegun { is_unbegun result.answer ≡ true → result.place ≡ Ok None }
-        ensures step { (typed : List ℕ)
-            × RunStep limit (history_of self.old) text.now result.answer typed (history_of self.new)
-            × Shows (T.screen term.old) (T.screen term.new) typed (is_terminal_failure result.answer) }
-        ensures exit { (present (history_of self.old)).is_done ≡ false
-            → (present (history_of self.new)).is_done ≡ true → answer_code result.answer ≡ None }
-        ensures same { is_unbegun result.answer ≡ true → self.new ≡ self.old }
-    {
-        self.run_where_until(text, limit, &mut Never, term)
-    }
-
-    /// Runs a command string just as [`Session::run_until`] does, and tells where its run last stood, as [`Session::run_where`] does.
-    pub fn run_where_until<S: Stop, T: Terminal>(
-        &mut self,
-        text: &[u8],
-        limit: u64,
-        stop: &mut S,
-        term: &mut T,
-    ) -> Answered
-        ensures place { IfSome (outcome_of result.answer)
-            (λ outcome. TellsPlace (present (history_of self.old)) text.now outcome result.place) }
-        ensures unbegun { is_unbegun result.answer ≡ true → result.place ≡ Ok None }
-        ensures step { RunsWithin (S.answered stop.new) limit (string_outcome result.answer) (λ l. (typed : List ℕ)
-            × RunStep l (history_of self.old) text.now result.answer typed (history_of self.new)
-            × Shows (T.screen term.old) (T.screen term.new) typed (is_terminal_failure result.answer)) }
-        ensures still { StillSays (S.answered stop.old) (S.answered stop.new) }
-        ensures exit { (present (history_of self.old)).is_done ≡ false
-            → (present (history_of self.new)).is_done ≡ true → answer_code result.answer ≡ None }
-        ensures same { is_unbegun result.answer ≡ true → self.new ≡ self.old }
-    {
-        let mut watch = Watched::new(self.alloc());
-        let answer = self.run_with(
-            text,
-            term,
-            Options {
-                limit,
-                stop,
-                watch: &mut watch,
-            },
-        );
-        Answered {
-            answer,
-            place: watch.into_place(),
-        }
     }
 
     /// Where the session finds its memory.
