@@ -4,21 +4,13 @@
 use std::cell::Cell;
 use std::process;
 use std::process::ExitCode;
-use teco_cli::{LineFault, fault_of_words, not_text};
+use teco_cli::{Line, words_given};
 use teco_driver::{Host, program};
 use teco_fs::{FileDisk, Piped, UntilLeft, hold_standard_streams};
 use teco_io::{ReaderSource, WriterTerminal};
 use teco_serve::ClockAlarm;
 
 // The theorem ends here: that these are the program's words, streams, clock and files is told by no contract.
-
-/// The words that the program was called with.
-fn words_given(rt: &HostRuntime) -> Result<Vec<String>, LineFault> {
-    match std::env::args(rt) {
-        Ok(words) => Ok(words.collect(rt.alloc())?),
-        Err(error) => Err(fault_of_words(error, not_text(rt.alloc()))),
-    }
-}
 
 fn main(rt: HostRuntime) -> ExitCode {
     hold_standard_streams(&rt);
@@ -32,7 +24,7 @@ fn main(rt: HostRuntime) -> ExitCode {
     };
     program(
         rt.alloc(),
-        words_given(&rt),
+        words_given::<Line, HostRuntime>(&rt),
         &mut host,
         &mut WriterTerminal::new(UntilLeft::new(rt.stderr(), &has_left)),
         &mut WriterTerminal::new(UntilLeft::new(rt.stderr(), &has_left)),

@@ -143,6 +143,14 @@ pub record IsLineBy (words : List Text) (line : Line) : Type 0 where
 abbrev pub IsLine : List Text → Line → Type 0
 IsLine words = IsLineBy (joined words)
 
+-- What holds of each line that is taken: its numbers are in their ranges, and nothing in it conflicts.
+pub record IsFit (line : Line) : Type 0 where
+  pub limit : line.limit ≤ 1000000000000
+  pub depth : IfSome line.undo IsDepth
+  pub seconds : IfSome line.seconds IsTime
+  pub page_lines : IfSome line.page_lines IsPageLength
+  pub fits : has_conflict line ≡ false
+
 -- what every parse gives
 pub record IsGiven (rows : List Row) : Type 0 where
   pub input : is_some (first_of (codes "input") rows) ≡ true

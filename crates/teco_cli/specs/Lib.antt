@@ -7,3 +7,4 @@ pub mod Values
 pub mod Parsing
 pub mod Refusals
 pub mod StreamNames
+pub mod Words

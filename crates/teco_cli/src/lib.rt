@@ -8,13 +8,16 @@ mod parsing;
 mod refusal;
 mod streams;
 mod values;
+mod words;
 
 pub use fault::{LineFault, fault_of_words};
-pub use line::{
-    Commands, Line, MOST_PAGE_LINES, MOST_SECONDS, commands_on_pages, line_of, not_text,
-};
+pub use line::{Commands, Line, commands_on_pages, line_of};
 pub use options::{MOST_STEPS, OptionRow, Takes};
-pub use parsing::{Program, VERSION, command_of, parsed};
-pub use refusal::{Refusal, RefusedAs, faulty, refusal_of, refused_by, refused_status};
+pub(crate) use parsing::command_of;
+pub use parsing::{Program, parsed};
+pub(crate) use refusal::refusal_of;
+pub use refusal::{Refusal, RefusedAs, faulty, refused_status};
 pub use streams::{is_standard_input, is_standard_output};
-pub use values::{are_given, flag_at, number_at, text_at, text_given, texts_at, texts_given};
+pub use values::{flag_at, text_at};
+pub(crate) use values::{are_given, number_at, text_given, texts_at, texts_given};
+pub use words::{CommandLine, line_in, not_text, words_given};

@@ -5,10 +5,9 @@ ghost use Rattle.std.specs.String.{string_bytes};
 ghost use Rattle.teco_cli.specs.CommandLine.{HasLine, IsCommands, IsCommandsFault, IsDepth, IsFaultOnceMade, IsFaultSaid, IsGiven, IsLine, IsLineBy, IsLineFault, IsMisfit, IsPageLength, IsTime, IsReadFault, SaysCommands, teco_app};
 ghost use Rattle.teco_cli.specs.Values.{text_behind, texts_behind};
 ghost use Rattle.teco_cli.specs.Conflict.{has_conflict};
-ghost use Rattle.teco_cli.specs.Refusals.{IsFaulty};
 
 use crate::{
-    LineFault, Program, Refusal, are_given, command_of, faulty, flag_at, number_at, refusal_of,
+    CommandLine, LineFault, Program, are_given, command_of, faulty, flag_at, number_at, refusal_of,
     text_at, text_given, texts_at, texts_given,
 };
 use clap::{ArgMatches, Command};
@@ -234,11 +233,24 @@ pub fn line_of(alloc: Global, words: &[String]) -> Result<Line, LineFault>
     line_by(alloc, command, made.as_slice())
 }
 
-/// The refusal of a line with an argument that is not UTF-8.
-pub fn not_text(alloc: Global) -> Result<Refusal, NoMemory>
-    ensures { IfOk result (IsFaulty (codes "an argument is not UTF-8 text") (codes "teco [OPTIONS] <INPUT>...")) }
-{
-    faulty(alloc, "an argument is not UTF-8 text", USAGE)
+impl CommandLine for Line {
+    ghost use Rattle.teco_cli.specs.CommandLine.{IsFit};
+
+    ghost usage = { codes "teco [OPTIONS] <INPUT>..." };
+
+    ghost says = { IsLine };
+
+    ghost lacks = { IsLineFault };
+
+    ghost fits = { IsFit };
+
+    fn usage() -> &'static str {
+        USAGE
+    }
+
+    fn of_words(alloc: Global, words: &[String]) -> Result<Line, LineFault> {
+        line_of(alloc, words)
+    }
 }
 
 mod conflict;

@@ -1,9 +1,6 @@
 -- What the command line says: teco-debug [OPTIONS] MACRO
-use Rattle.std.specs.Prelude.{◌≡◌, ◌↔◌, ◌⊎◌, ⊤, ℕ, List, [], ◌∷◌, codes, map, min, Option, Some, None, option_map, unwrap_or, true, false, IsTrue, Result, Ok, Err}
+use Rattle.std.specs.Prelude.{◌≡◌, ◌↔◌, ◌⊎◌, ⊤, ℕ, List, [], ◌∷◌, codes, map, min, Option, Some, None, option_map, unwrap_or, true, false, IsTrue}
 use Rattle.std.specs.String.{string_bytes}
-use Rattle.std.specs.declared.alloc.Global.{Global}
-use Rattle.std.specs.declared.string.String.{String}
-use Rattle.std.specs.declared.vec.Vec.{Vec}
 use Rattle.clap.specs.Words.{App, IsAmong, Row, Rule, Text, fault_of, first_of, matches_of, new_app, new_rule, one_of, takes}
 use Rattle.clap.specs.declared.builder.action.ArgAction.TheVariants.{Set}
 use Rattle.clap.specs.declared.error.kind.ErrorKind.{ErrorKind}
@@ -64,13 +61,3 @@ abbrev pub WordsSayNone : List Text → LineFault → Type 0
 WordsSayNone words line_fault.NoMemory = ⊤
 WordsSayNone words (line_fault.Refused refusal) =
     (error : ErrorKind) × IsDebugError words error × IsToldAs refusal.refused_as error
-
--- The words, where they were given, say this line.
-abbrev pub WordsGivenSay : Result (Vec (String Global) Global) LineFault → DebuggerLine → Type 0
-WordsGivenSay (Ok words) line = WordsSay (map string_bytes words.items) line
-WordsGivenSay (Err fault) line = ⊥
-
--- Why there is no line: the words were not given, or they say none.
-abbrev pub WordsGivenSayNone : Result (Vec (String Global) Global) LineFault → LineFault → Type 0
-WordsGivenSayNone (Ok words) fault = WordsSayNone (map string_bytes words.items) fault
-WordsGivenSayNone (Err given) fault = fault ≡ given

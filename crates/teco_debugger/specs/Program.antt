@@ -1,13 +1,11 @@
 -- A run of the program, from its words to its status.
-use Rattle.std.specs.Prelude.{◌≡◌, ◌⊎◌, ℕ, List, Option, Result, codes}
-use Rattle.std.specs.declared.alloc.Global.{Global}
-use Rattle.std.specs.declared.string.String.{String}
-use Rattle.std.specs.declared.vec.Vec.{Vec}
-use Rattle.teco_cli.specs.declared.fault.LineFault.{LineFault}
-use Rattle.teco_fs.specs.Refusing.{IsRefusedBy}
+use Rattle.std.specs.Prelude.{◌≡◌, ◌⊎◌, ℕ, List, Option, codes}
+use Rattle.teco_cli.specs.Words.{IsLineIn, Words}
+use Rattle.teco_fs.specs.Console.{console}
+use Rattle.teco_fs.specs.Refusing.{Refuses}
 use Rattle.teco_fs.specs.Seen.{KeepsDisk, Host, DiskSeen}
 use Rattle.teco_io.specs.Terminal.{Screen}
-use Rattle.teco_debugger.specs.CommandLine.{WordsGivenSay, WordsGivenSayNone}
+use Rattle.teco_debugger.specs.CommandLine.{WordsSay, WordsSayNone}
 use Rattle.teco_debugger.specs.Ending.{TellsEnding, told_line}
 use Rattle.teco_debugger.specs.Reading.{BeginsOver, CannotRead}
 use Rattle.teco_debugger.specs.Serving.{ServesLines, stage}
@@ -49,26 +47,17 @@ pub record RetracesLine {D I S T : Type 0} (view : RetraceView D I S T) (line : 
 
 -- The words say a line, and the run is that over it. How it ends is told on standard error.
 pub record RetracesWords {D I S T E : Type 0} (view : RetraceView D I S T) (errors : E → Screen)
-    (words : Result (Vec (String Global) Global) LineFault) (old new : Host D S T) (told telling : E) (status : ℕ)
-    : Type 0 where
+    (words : Words) (old new : Host D S T) (told telling : E) (status : ℕ) : Type 0 where
   pub line : DebuggerLine
-  pub line_is : WordsGivenSay words line
+  pub line_is : IsLineIn WordsSay words line
   pub ending : Ending
   pub run : RetracesLine view line old new ending
   pub end : TellsEnding line ending (errors told) (errors telling) status
 
--- The words say no line. Nothing is read, and nothing is shown but what is told of that, by which the status is.
-pub record RetracesNothing {D I S T E : Type 0} (view : RetraceView D I S T) (errors : E → Screen)
-    (words : Result (Vec (String Global) Global) LineFault) (old new : Host D S T) (told telling : E) (status : ℕ)
-    : Type 0 where
-  pub fault : LineFault
-  pub fault_is : WordsGivenSayNone words fault
-  pub refused : IsRefusedBy view.screen errors (told_line (codes "no memory")) fault old.term new.term told telling status
-  pub stream : new.stream ≡ old.stream
-  pub disk : new.disk ≡ old.disk
-
-abbrev pub RetracesBy : {D I S T E : Type 0} → RetraceView D I S T → (E → Screen)
-    → Result (Vec (String Global) Global) LineFault → Host D S T → Host D S T → E → E → ℕ → Type 0
+-- The words say no line, and nothing is read or shown but what is told of that; or they say one.
+abbrev pub RetracesBy : {D I S T E : Type 0} → RetraceView D I S T → (E → Screen) → Words → Host D S T → Host D S T → E → E → ℕ
+    → Type 0
 RetracesBy view errors words old new told telling status =
-    RetracesNothing view errors words old new told telling status
+    Refuses (console view.screen old.term new.term errors told telling) (told_line (codes "no memory")) WordsSayNone words
+    ((new.stream ≡ old.stream) × (new.disk ≡ old.disk)) status
     ⊎ RetracesWords view errors words old new told telling status

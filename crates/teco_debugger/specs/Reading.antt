@@ -1,10 +1,8 @@
 -- Files that are read: the command string, and the input.
-use Rattle.std.specs.Prelude.{◌≡◌, ◌≢◌, ◌⊎◌, ℕ, List, [], map, Option, Some, None, Bool, true, false}
-use Rattle.std.specs.IoError.{error_kind}
+use Rattle.std.specs.Prelude.{◌≡◌, ◌⊎◌, ℕ, List, [], map, Option, Some, None, Bool, true, false}
 use Rattle.std.specs.String.{string_bytes}
 use Rattle.std.specs.declared.alloc.Global.{Global}
 use Rattle.std.specs.declared.io.Error.{Error}
-use Rattle.std.specs.declared.io.ErrorKind.TheVariants.{OutOfMemory}
 use Rattle.std.specs.declared.string.String.{String}
 use Rattle.teco_core.specs.declared.limits.TheConstants.{FILE_LIMIT}
 use Rattle.teco_fs.specs.Disk.{Files, Opens}
@@ -13,7 +11,7 @@ use Rattle.teco_io.specs.Source.{Gives}
 use Rattle.teco_io.specs.declared.input.InputFault.{InputFault}
 use Rattle.teco_io.specs.declared.input.InputFault.TheVariants as input
 use Rattle.teco_fs.specs.Reading.{IsInput}
-use Rattle.teco_fs.specs.Reasons.{reason_of}
+use Rattle.teco_fs.specs.Reasons.{ComesTo}
 use Rattle.teco_fs.specs.declared.reason.Reason.TheVariants.{ReadFailed}
 use Rattle.teco_fs.specs.Seen.{DiskSeen}
 use Rattle.teco_debugger.specs.Spelling.{escaped}
@@ -24,11 +22,6 @@ use Rattle.teco_debugger.specs.declared.line.DebuggerLine.{DebuggerLine}
 use Rattle.teco_debugger.specs.declared.reading.FileFault.{FileFault}
 use Rattle.teco_debugger.specs.declared.reading.FileFault.TheVariants as file
 
--- Why a file is not had that could not be opened: for want of memory where the error is that, else for its reason.
-pub record IsFaultOfError (error : Error) (fault : FileFault) : Type 0 where
-  pub memory : error_kind error ≡ OutOfMemory → fault ≡ file.Memory
-  pub other_is : error_kind error ≢ OutOfMemory → fault ≡ file.Unread (reason_of (error_kind error))
-
 -- why a file is not had that was opened, after a reading that ended by this fault
 abbrev pub fault_after : InputFault → FileFault
 fault_after input.Read = file.Unread ReadFailed
@@ -38,7 +31,7 @@ fault_after input.Memory = file.Memory
 -- The file of this name is not had: the disk refused to open it, or what it opened was read, and that ended by a
 -- fault.
 abbrev pub IsNotRead : {I : Type 0} → Option Files → DiskSeen I → List ℕ → FileFault → Type 0
-IsNotRead {I} files new name fault = ((error : Error) × new.gave error × IsFaultOfError error fault)
+IsNotRead {I} files new name fault = ((error : Error) × new.gave error × ComesTo error file.Memory file.Unread fault)
     ⊎ ((first : I) × (last : I) × (read : InputFault) × Opens files name (new.input.coming first)
     × IsFaultOf FILE_LIMIT (Gives new.input.coming new.input.bound new.input.failures first last) read
     × (fault ≡ fault_after read))

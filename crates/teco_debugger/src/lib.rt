@@ -19,9 +19,9 @@ mod stops;
 mod verb;
 mod walk;
 
-pub use command::{CommandFault, DebuggerCommand};
-pub use line::not_text;
-pub use part::Part;
+pub(crate) use command::{CommandFault, DebuggerCommand};
+pub use line::DebuggerLine;
+pub(crate) use part::Part;
 pub use running::program;
-pub use verb::{Counted, Plain, VERBS, VerbRow};
-pub use walk::{Seen, Walk};
+pub(crate) use verb::{Counted, Plain, VERBS, VerbRow};
+pub(crate) use walk::{Seen, Walk};

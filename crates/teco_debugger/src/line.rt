@@ -3,15 +3,13 @@ ghost use Rattle.clap.specs.Words.{found_of, one_of, rows_of};
 ghost use Rattle.std.specs.Prelude.{[], ◌≡◌, ◌≤◌, IfErr, IfOk, codes, map, option_map, unwrap_or};
 ghost use Rattle.std.specs.String.{string_bytes};
 ghost use Rattle.teco_cli.specs.OptionTable.{rule_by};
-ghost use Rattle.teco_cli.specs.Refusals.{IsFaulty};
 ghost use Rattle.teco_debugger.specs.CommandLine.{IsLimit, LineHas, WordsSay, WordsSayNone, debug_rules};
 
 use clap::ArgMatches;
 use std::alloc::Global;
 use teco_cli::{
-    LineFault, MOST_STEPS, OptionRow, Program, Refusal, Takes, faulty, flag_at, parsed, text_at,
+    CommandLine, LineFault, MOST_STEPS, OptionRow, Program, Takes, flag_at, parsed, text_at,
 };
-use teco_core::NoMemory;
 
 /// The steps that the string is given if the line says nothing.
 const STEPS: u64 = 1_000_000;
@@ -124,7 +122,7 @@ fn line_in<'a>(alloc: Global, matches: &ArgMatches<'a>) -> Result<DebuggerLine, 
 }
 
 /// What the words say, the program's name first: `teco-debug [--limit N] [--input FILE] [--dollar] MACRO`.
-pub fn line_of(alloc: Global, words: &[String]) -> Result<DebuggerLine, LineFault>
+fn line_of(alloc: Global, words: &[String]) -> Result<DebuggerLine, LineFault>
     ensures line { IfOk result (WordsSay (map string_bytes words.now)) }
     ensures range { IfOk result (λ line. line.limit ≤ 1000000000000) }
     ensures refused { IfErr result (WordsSayNone (map string_bytes words.now)) }
@@ -135,9 +133,20 @@ pub fn line_of(alloc: Global, words: &[String]) -> Result<DebuggerLine, LineFaul
     }
 }
 
-/// The refusal of a line with an argument that is not UTF-8.
-pub fn not_text(alloc: Global) -> Result<Refusal, NoMemory>
-    ensures { IfOk result (IsFaulty (codes "an argument is not UTF-8 text") (codes "teco-debug [OPTIONS] <MACRO>")) }
-{
-    faulty(alloc, "an argument is not UTF-8 text", USAGE)
+impl CommandLine for DebuggerLine {
+    ghost usage = { codes "teco-debug [OPTIONS] <MACRO>" };
+
+    ghost says = { WordsSay };
+
+    ghost lacks = { WordsSayNone };
+
+    ghost fits = { λ line. line.limit ≤ 1000000000000 };
+
+    fn usage() -> &'static str {
+        USAGE
+    }
+
+    fn of_words(alloc: Global, words: &[String]) -> Result<DebuggerLine, LineFault> {
+        line_of(alloc, words)
+    }
 }

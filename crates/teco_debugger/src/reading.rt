@@ -2,15 +2,16 @@
 ghost use Rattle.std.specs.Prelude.{◌≡◌, ◌≤◌, IfErr, IfOk, vec_len, map};
 ghost use Rattle.teco_core.specs.declared.limits.TheConstants.{FILE_LIMIT};
 ghost use Rattle.teco_fs.specs.Reading.{IsInput};
+ghost use Rattle.teco_fs.specs.Reasons.{ComesTo};
+ghost use Rattle.teco_debugger.specs.declared.reading.FileFault.TheVariants as file;
 ghost use Rattle.teco_fs.specs.Seen.{KeepsDisk, disk_seen};
-ghost use Rattle.teco_debugger.specs.Reading.{IsFaultOfError, IsNotRead};
+ghost use Rattle.teco_debugger.specs.Reading.{IsNotRead};
 ghost use Rattle.teco_debugger.specs.Spelling.{escaped};
 
 use std::alloc::Global;
 use std::io;
-use std::io::ErrorKind;
 use teco_core::{ESC, FILE_LIMIT, NoMemory};
-use teco_fs::{Disk, Reason, reason_of};
+use teco_fs::{Disk, Reason, reason_of, unless_memory};
 use teco_io::{InputFault, read_input};
 
 /// Why a file is not had.
@@ -40,20 +41,21 @@ impl From<InputFault> for FileFault {
 
 /// Why a file is not had that could not be opened.
 fn fault_of(error: io::Error) -> FileFault
-    ensures { IsFaultOfError error result }
+    ensures { ComesTo error file.Memory file.Unread result }
 {
-    match error.kind() {
-        ErrorKind::OutOfMemory => FileFault::Memory,
-        _ => FileFault::Unread(reason_of(error)),
-    }
+    unless_memory(
+        error,
+        FileFault::Memory,
+        FileFault::Unread(reason_of(error)),
+    )
 }
 
 /// The bytes of a file, at most 2^30.
 pub fn read_file<D: Disk>(alloc: Global, name: &str, disk: &mut D) -> Result<Vec<u8>, FileFault>
-    ensures bytes { IfOk result (λ bytes. IsInput (D.files disk.old) name.now bytes.items) }
+    ensures bytes { IfOk result (λ bytes. IsInput (D.seen disk.old).files name.now bytes.items) }
     ensures most { IfOk result (λ bytes. vec_len bytes ≤ FILE_LIMIT) }
     ensures fault { let seen = disk_seen D.Disk D.Input.Source in
-        IfErr result (IsNotRead (D.files disk.old) (seen disk.new) name.now) }
+        IfErr result (IsNotRead (D.seen disk.old).files (seen disk.new) name.now) }
     ensures keeps { let seen = disk_seen D.Disk D.Input.Source in
         KeepsDisk (seen disk.old) (seen disk.new) }
 {

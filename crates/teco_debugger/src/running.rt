@@ -3,29 +3,28 @@ ghost use Rattle.std.specs.Prelude.{◌≡◌, ◌≤◌, IfErr, IfOk, vec_len};
 ghost use Rattle.std.specs.Process.{exit_status};
 ghost use Rattle.teco_core.specs.declared.limits.TheConstants.{FILE_LIMIT};
 ghost use Rattle.teco_fs.specs.Seen.{KeepsDisk, host, disk_seen};
-ghost use Rattle.teco_debugger.specs.CommandLine.{WordsGivenSay, WordsGivenSayNone};
 ghost use Rattle.teco_debugger.specs.Program.{HasNoFiles, RetracesBy, ServesFiles, retrace_view};
 ghost use Rattle.teco_debugger.specs.Reading.{IsInputOf, IsTextOf, CannotRead};
 
 use crate::Walk;
 use crate::debugger::Debugger;
 use crate::ending::{Ending, NO_MEMORY, conclude};
-use crate::line::{DebuggerLine, line_of};
+use crate::line::DebuggerLine;
 use crate::reading::{read_file, with_escapes};
 use crate::serving::serve;
 use std::alloc::Global;
 use std::io::BufRead;
 use std::process::ExitCode;
-use teco_cli::LineFault;
+use teco_cli::{LineFault, line_in};
 use teco_core::NoMemory;
 use teco_fs::{Disk, refuse};
 use teco_io::Terminal;
 
 /// The command string of the line.
 fn text_of<D: Disk>(alloc: Global, line: &DebuggerLine, disk: &mut D) -> Result<Vec<u8>, Ending>
-    ensures text { IfOk result (λ text. IsTextOf (D.files disk.old) line.now text.items) }
+    ensures text { IfOk result (λ text. IsTextOf (D.seen disk.old).files line.now text.items) }
     ensures lacks { let seen = disk_seen D.Disk D.Input.Source in
-        IfErr result (CannotRead (D.files disk.old) (seen disk.new) line.now) }
+        IfErr result (CannotRead (D.seen disk.old).files (seen disk.new) line.now) }
     ensures keeps { let seen = disk_seen D.Disk D.Input.Source in
         KeepsDisk (seen disk.old) (seen disk.new) }
 {
@@ -42,10 +41,10 @@ fn text_of<D: Disk>(alloc: Global, line: &DebuggerLine, disk: &mut D) -> Result<
 
 /// The input of the line, which is empty if none is named.
 fn input_of<D: Disk>(alloc: Global, line: &DebuggerLine, disk: &mut D) -> Result<Vec<u8>, Ending>
-    ensures input { IfOk result (λ input. IsInputOf (D.files disk.old) line.now.input input.items) }
+    ensures input { IfOk result (λ input. IsInputOf (D.seen disk.old).files line.now.input input.items) }
     ensures most { IfOk result (λ input. vec_len input ≤ FILE_LIMIT) }
     ensures lacks { let seen = disk_seen D.Disk D.Input.Source in
-        IfErr result (CannotRead (D.files disk.old) (seen disk.new) line.now) }
+        IfErr result (CannotRead (D.seen disk.old).files (seen disk.new) line.now) }
     ensures keeps { let seen = disk_seen D.Disk D.Input.Source in
         KeepsDisk (seen disk.old) (seen disk.new) }
 {
@@ -79,16 +78,6 @@ fn retrace<C: BufRead, T: Terminal, D: Disk>(
     Ok(serve(alloc, &mut debugger, commands, term))
 }
 
-fn line_by(alloc: Global, words: Result<Vec<String>, LineFault>) -> Result<DebuggerLine, LineFault>
-    ensures line { IfOk result (WordsGivenSay words) }
-    ensures fault { IfErr result (WordsGivenSayNone words) }
-{
-    match words {
-        Ok(words) => line_of(alloc, words.as_slice()),
-        Err(fault) => Err(fault),
-    }
-}
-
 /// Goes back and forth over what these words ask for, as the commands say, and gives the status.
 pub fn program<C: BufRead, T: Terminal, E: Terminal, D: Disk>(
     alloc: Global,
@@ -102,7 +91,7 @@ pub fn program<C: BufRead, T: Terminal, E: Terminal, D: Disk>(
         RetracesBy view E.screen words (host disk.old commands.old term.old) (host disk.new commands.new term.new)
         errors.old errors.new (exit_status result) }
 {
-    match line_by(alloc, words) {
+    match line_in::<DebuggerLine>(alloc, words) {
         Ok(line) => {
             let ending = match retrace(alloc, &line, commands, term, disk) {
                 Ok(ending) => ending,

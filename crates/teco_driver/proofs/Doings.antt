@@ -2,7 +2,9 @@
 use Rattle.teco_io.specs.declared.source.Source.{Ghosts as SourceView}
 use Rattle.std.proofs.Common.{◌≡◌, ◌≢◌, inl, inr, ℕ, List, Bool, IsTrue, Option, None, Some, true, false, refl, ap, sym, ◌∙◌, subst}
 use Rattle.std.specs.declared.io.Error.{Error}
+use Rattle.std.specs.IoError.{error_kind}
 use Rattle.teco_fs.specs.Disk.{Changes, Files}
+use Rattle.teco_fs.specs.Reasons.{ComesTo, reason_of}
 use Rattle.teco_fs.specs.declared.unkept.Unkept.{Unkept}
 use Rattle.teco_io.specs.declared.input.InputFault.{InputFault}
 use Rattle.teco_io.specs.declared.input.InputFault.TheVariants as input
@@ -15,9 +17,10 @@ use Rattle.teco_io.specs.Terminal.{Screen, Shows}
 use Rattle.teco_fs.specs.declared.reason.Reason.{Reason}
 use Rattle.teco_fs.specs.Writing.{HasDraft, IsPut, WritesOutput}
 use Rattle.teco_serve.specs.Ending.{fate_without_input, output_of}
-use Rattle.teco_driver.specs.Seen.{CommandsSeen, InputSeen, OutputSeen, RunSeen, TerminalSeen, run_seen, terminal_seen}
+use Rattle.teco_driver.specs.Seen.{CommandsSeen, InputSeen, OutputSeen, RunSeen, run_seen}
+use Rattle.teco_fs.specs.Console.{TerminalSeen, terminal_seen}
 use Rattle.teco_fs.specs.Seen.{DiskSeen, KeepsDisk}
-use Rattle.teco_driver.specs.Run.{Doings, Edits, EndsBy, EndsIn, FindsChange, FinishesIn, FailsToWrite, IsFateOf, Lacks, LacksInput, ServesInput, bounds_of, doings, doings_after, fate_written, given_input, history_over, input_from, named_input, named_output, replaces_input, standard_input, standard_output}
+use Rattle.teco_driver.specs.Run.{Doings, Edits, EndsBy, EndsIn, FindsChange, FinishesIn, FailsToWrite, Lacks, LacksInput, ServesInput, bounds_of, doings, doings_after, fate_written, given_input, history_over, input_from, named_input, named_output, replaces_input, standard_input, standard_output}
 use Rattle.teco_serve.specs.declared.fate.Fate.{Fate}
 use Rattle.teco_serve.specs.declared.fate.Fate.TheVariants.{NoCommands, NoInput, NotRegular, LargeInput, NoMemory, NoOutput, Changed, Unchanged, Lacking, Ended}
 use Rattle.teco_serve.specs.declared.served.Served.{Served}
@@ -188,7 +191,7 @@ to_terminal {line} {bytes} {input} {to} {commands} {term} given = record {
 }
 
 -- an error's fate is want of memory or the other one
-no_other : {error : Error} {other fate : Fate} → IsFateOf error other fate → fate ≢ NoMemory → fate ≢ other → ⊥
+no_other : {error : Error} {by_reason : Reason → Fate} {fate : Fate} → ComesTo error NoMemory by_reason fate → fate ≢ NoMemory → fate ≢ by_reason (reason_of (error_kind error)) → ⊥
 no_other f not_memory not_other = not_other (f.other_is (λ memory. not_memory (f.memory memory)))
 
 lacks_some : (served : Served) (fault : InputFault) → Ended served ≡ fate_without_input fault → ⊥
@@ -347,7 +350,7 @@ written run output None s w u = (output, s, w, u)
 written run output (Some unkept) s w u = (output, s, w, u)
 
 -- A failed write after an exit.
-pub failed_write : (run : Doings) (output : List ℕ) (fate : Fate) {error : Error} {reason : Reason} → IsFateOf error (NoOutput reason) fate → run.serves served.Exit output → run.fails output fate → EndsBy run fate
+pub failed_write : (run : Doings) (output : List ℕ) (fate : Fate) {error : Error} → ComesTo error NoMemory NoOutput fate → run.serves served.Exit output → run.fails output fate → EndsBy run fate
 failed_write run output (NoOutput other) is s f = (output, s, f)
 failed_write run output NoMemory is s f = inr (output, s, f)
 failed_write run output (NoCommands other) is s f = absurd (no_other is (λ e. cc) (λ e. cc))

@@ -11,7 +11,9 @@ use Rattle.teco_cli.specs.declared.line.Commands.TheVariants.{StandardInput, Sou
 use Rattle.teco_cli.specs.declared.line.Line.{Line}
 use Rattle.teco_serve.specs.declared.fate.Fate.{Fate}
 use Rattle.teco_cli.specs.declared.fault.LineFault.{LineFault}
-use Rattle.teco_driver.specs.Lines.{worse, worst, IsLineIn}
+use Rattle.teco_cli.specs.CommandLine.{IsLine}
+use Rattle.teco_cli.specs.Words.{IsLineIn, Words}
+use Rattle.teco_driver.specs.Lines.{worse, worst}
 use Rattle.teco_driver.specs.Runs.{Chain}
 
 -- One run more, after those in order.
@@ -28,7 +30,7 @@ worst_more so_far [] x = refl
 worst_more so_far (y ∷ ys) x = worst_more (worse so_far y) ys x
 
 -- Two lines that the same words say ask alike to be explained.
-pub same_explain : (words : Result (Vec (String Global) Global) LineFault) (line other : Line) → IsLineIn words line → IsLineIn words other
+pub same_explain : (words : Words) (line other : Line) → IsLineIn IsLine words line → IsLineIn IsLine words other
     → other.explain ≡ false → line.explain ≡ false
 same_explain (Ok words) line other is same off = elim (cases_Bool line.explain) [
   | inl up ↦ absurd (true≢false (sym (same.given.explain.1 (is.given.explain.0 up)) ∙ off))

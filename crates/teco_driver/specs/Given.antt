@@ -4,7 +4,6 @@ use Rattle.teco_io.specs.declared.word_source.WordSource.{WordSource}
 use Rattle.teco_io.specs.contracts.word_source.WordSourceSource.TheImpl as word
 use Rattle.std.specs.Prelude.{◌≡◌, ◌≢◌, ◌⊎◌, ◌&&◌, not, ℕ, List, Some, Bool, true, false, ⊤}
 use Rattle.std.specs.String.{string_bytes}
-use Rattle.std.specs.IoError.{error_kind}
 use Rattle.std.specs.declared.io.Error.{Error}
 use Rattle.teco_fs.specs.Disk.{Opens}
 use Rattle.teco_io.specs.Terminal.{Screen}
@@ -13,9 +12,9 @@ use Rattle.teco_cli.specs.StreamNames.{is_standard_input}
 use Rattle.teco_cli.specs.declared.line.Commands.{Commands}
 use Rattle.teco_cli.specs.declared.line.Commands.TheVariants.{StandardInput, Sources, Pages, Bytes}
 use Rattle.teco_cli.specs.declared.line.Line.{Line}
-use Rattle.teco_driver.specs.Run.{Edits, IsFateOf, input_from, named_input, standard_input}
-use Rattle.teco_fs.specs.Reasons.{reason_of}
-use Rattle.teco_fs.specs.Seen.{DiskSeen, KeepsDisk, source_view}
+use Rattle.teco_driver.specs.Run.{Edits, input_from, named_input, standard_input}
+use Rattle.teco_fs.specs.Reasons.{ComesTo}
+use Rattle.teco_fs.specs.Seen.{DiskSeen, KeepsDisk, KeepsStream}
 use Rattle.teco_driver.specs.declared.giving.Feed.{Feed}
 use Rattle.teco_driver.specs.declared.giving.Feed.TheVariants.{Stream, File}
 use Rattle.teco_driver.specs.declared.giving.Feed.TheVariants as feed
@@ -27,7 +26,12 @@ use Rattle.teco_serve.specs.declared.served.Served.TheVariants as served
 
 -- how a source over the bytes of a word is seen
 abbrev pub word_seen : SourceView WordSource
-word_seen = source_view (word.coming-value).it (word.bound-value).it (word.failures-value).it (word.ended-value).it
+word_seen = record {
+  coming = (word.coming-value).it;
+  bound = (word.bound-value).it;
+  failures = (word.failures-value).it;
+  ended = (word.ended-value).it;
+}
 
 -- how the parts of a host are seen
 pub record HostView (D I S T : Type 0) : Type 1 where
@@ -50,10 +54,6 @@ EditsInput view line input given old new fate = Edits line input
     (named_input (view.disk old.disk) (view.disk new.disk) input))
     given (view.disk old.disk) (view.disk new.disk) view.screen old.terminal new.terminal) fate
 
--- What comes on standard input stays as it is, unless the input comes from there.
-abbrev pub KeepsStream : {S A T D : Type 0} → List ℕ → Host S A T D → Host S A T D → Type 0
-KeepsStream input old new = is_standard_input input ≡ false → new.commands ≡ old.commands
-
 -- Nothing was done.
 abbrev pub IsIdle : {D I S A T : Type 0} → HostView D I S T → Host S A T D → Host S A T D → Type 0
 IsIdle view old new = (new.terminal ≡ old.terminal) × KeepsDisk (view.disk old.disk) (view.disk new.disk)
@@ -62,7 +62,7 @@ IsIdle view old new = (new.terminal ≡ old.terminal) × KeepsDisk (view.disk ol
 -- which no read fails.
 pub record EditsByBytes {D I S A T : Type 0} (view : HostView D I S T) (line : Line) (input bytes : List ℕ)
     (old new : Host S A T D) (fate : Fate) : Type 0 where
-  pub kept : KeepsStream input old new
+  pub kept : KeepsStream input old.commands new.commands
   pub edits : ((fate ≡ NoMemory) × IsIdle view old new)
       ⊎ ((first : WordSource) × (last : WordSource) × (word_seen.coming first ≡ Some bytes)
       × EditsInput view line input (commands_seen word_seen first last view.asked) old new fate
@@ -72,9 +72,9 @@ pub record EditsByBytes {D I S A T : Type 0} (view : HostView D I S T) (line : L
 -- what it opened.
 pub record EditsByFile {D I S A T : Type 0} (view : HostView D I S T) (line : Line) (input name : List ℕ)
     (old new : Host S A T D) (fate : Fate) : Type 0 where
-  pub kept : KeepsStream input old new
+  pub kept : KeepsStream input old.commands new.commands
   pub edits : ((error : Error) × (view.disk new.disk).gave error
-      × IsFateOf error (NoCommands (reason_of (error_kind error))) fate
+      × ComesTo error NoMemory NoCommands fate
       × IsIdle view old new)
       ⊎ ((first : I) × (last : I) × Opens (view.disk old.disk).files name ((view.disk old.disk).input.coming first)
       × EditsInput view line input (commands_seen (view.disk old.disk).input first last view.asked) old new fate)

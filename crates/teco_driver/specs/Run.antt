@@ -5,9 +5,7 @@ use Rattle.std.specs.Str.{bytes_eq}
 use Rattle.std.specs.String.{string_bytes}
 use Rattle.teco_io.specs.Terminal.{IsFrontOf, Screen, Shows}
 use Rattle.teco_cli.specs.StreamNames.{is_standard_output}
-use Rattle.std.specs.IoError.{error_kind}
 use Rattle.std.specs.declared.io.Error.{Error}
-use Rattle.std.specs.declared.io.ErrorKind.TheVariants.{OutOfMemory}
 use Rattle.teco_core.specs.declared.limits.TheConstants.{FILE_LIMIT}
 use Rattle.teco_session.specs.History.{History, new_paged_history, present}
 use Rattle.teco_fs.specs.declared.unkept.Unkept.{Unkept}
@@ -17,9 +15,10 @@ use Rattle.teco_io.specs.Input.{IsFaultOf}
 use Rattle.teco_fs.specs.Refusing.{Tells}
 use Rattle.teco_serve.specs.Exchange.{allowance}
 use Rattle.teco_serve.specs.Serving.{Serves}
-use Rattle.teco_driver.specs.Seen.{CommandsSeen, InputSeen, OutputSeen, RunSeen, TerminalSeen, terminal_seen}
+use Rattle.teco_driver.specs.Seen.{CommandsSeen, InputSeen, OutputSeen, RunSeen}
+use Rattle.teco_fs.specs.Console.{TerminalSeen, terminal_seen}
 use Rattle.teco_fs.specs.Reading.{IsInput, IsStreamed}
-use Rattle.teco_fs.specs.Reasons.{reason_of}
+use Rattle.teco_fs.specs.Reasons.{ComesTo}
 use Rattle.teco_fs.specs.declared.reason.Reason.TheVariants.{WriteFailed}
 use Rattle.teco_fs.specs.Seen.{DiskSeen, KeepsDisk}
 use Rattle.teco_io.specs.Source.{Gives}
@@ -36,11 +35,6 @@ use Rattle.teco_cli.specs.declared.line.Line.{Line}
 use Rattle.teco_serve.specs.declared.served.Served.{Served}
 use Rattle.teco_serve.specs.declared.served.Served.TheVariants as served
 
--- The fate of an error: want of memory where the error is that, otherwise the other one.
-pub record IsFateOf (error : Error) (other fate : Fate) : Type 0 where
-  pub memory : error_kind error ≡ OutOfMemory → fate ≡ NoMemory
-  pub other_is : error_kind error ≢ OutOfMemory → fate ≡ other
-
 -- What the disk opened under the name was read, and that ended by a fault.
 pub record FailsToRead {I : Type 0} (input : SourceView I) (files : Option Files) (name : List ℕ)
     (fate : Fate) : Type 0 where
@@ -55,7 +49,7 @@ pub record FailsToRead {I : Type 0} (input : SourceView I) (files : Option Files
 pub record FailsToOpen (gave : Error → Type 0) (fate : Fate) : Type 0 where
   pub error : Error
   pub given : gave error
-  pub fate_is : IsFateOf error (NoInput (reason_of (error_kind error))) fate
+  pub fate_is : ComesTo error NoMemory NoInput fate
 
 -- Why there is no input.
 abbrev pub LacksInput : {I : Type 0} → DiskSeen I → DiskSeen I → List ℕ → Fate → Type 0
@@ -69,7 +63,7 @@ pub record FailsToWrite {I : Type 0} (old new : DiskSeen I) (name bytes : List �
   pub moments : Passes old.files old.left new.left (IsWriting name bytes)
   pub error : Error
   pub given : IsWriteError new.gave error
-  pub fate_is : IsFateOf error (NoOutput (reason_of (error_kind error))) fate
+  pub fate_is : ComesTo error NoMemory NoOutput fate
 
 -- The file has changed since it was read. It is as it was before the writing, and at each moment it was so.
 pub record FindsChange {I : Type 0} (old new : DiskSeen I) (name bytes : List ℕ) : Type 0 where

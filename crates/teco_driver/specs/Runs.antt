@@ -1,20 +1,21 @@
 -- The runs of the program: over one input by commands as they come, or over each input by commands that are had at once.
 use Rattle.teco_io.specs.declared.source.Source.{Ghosts as SourceView}
-use Rattle.std.specs.Prelude.{◌≡◌, ◌⊎◌, ℕ, List, [], ◌∷◌, map, Result, true, false}
+use Rattle.std.specs.Prelude.{◌≡◌, ◌⊎◌, ℕ, List, [], ◌∷◌, codes, map, true, false}
 use Rattle.std.specs.String.{string_bytes}
-use Rattle.std.specs.declared.string.String.{String}
-use Rattle.std.specs.declared.vec.Vec.{Vec}
-use Rattle.std.specs.declared.alloc.Global.{Global}
 use Rattle.teco_io.specs.Terminal.{Screen}
 use Rattle.teco_cli.specs.declared.line.Line.{Line}
-use Rattle.teco_cli.specs.declared.fault.LineFault.{LineFault}
+use Rattle.teco_cli.specs.CommandLine.{IsLine, IsLineFault}
+use Rattle.teco_cli.specs.Words.{IsLineIn, Words}
 use Rattle.teco_driver.specs.Checks.{AreRejected, MayRun, TellsVerdict}
-use Rattle.teco_driver.specs.Lines.{IsLineIn, Refuses, worst}
+use Rattle.teco_driver.specs.Lines.{worst}
 use Rattle.teco_driver.specs.declared.giving.Feed.{Feed}
 use Rattle.teco_driver.specs.declared.host.Host.{Host}
 use Rattle.teco_driver.specs.Run.{Concludes}
 use Rattle.teco_driver.specs.Given.{EditsBy, EditsByBytes, EditsGiven, HostView, IsIdle, is_streamed}
+use Rattle.teco_fs.specs.Console.{console}
+use Rattle.teco_fs.specs.Refusing.{Refuses}
 use Rattle.teco_fs.specs.Seen.{DiskSeen, KeepsDisk}
+use Rattle.teco_serve.specs.Ending.{said}
 use Rattle.teco_serve.specs.declared.fate.Fate.{Fate}
 use Rattle.teco_driver.specs.declared.sources.CommandsFault.{CommandsFault}
 use Rattle.teco_driver.specs.Sources.{Declines, IsGivenBy, LacksCommands}
@@ -106,14 +107,14 @@ RunsOrChecks view errors line old new told telling status = ((line.check ≡ fal
     ⊎ ChecksLine view.disk view.stream view.screen errors line old new told telling status
 
 -- The words say a line, and it is run over or checked; or they say none, and nothing is done but that that is told.
-pub record RunsOverLine {D I S A T E : Type 0} (view : HostView D I S T) (errors : E → Screen) (words : Result (Vec (String Global) Global) LineFault)
+pub record RunsOverLine {D I S A T E : Type 0} (view : HostView D I S T) (errors : E → Screen) (words : Words)
     (old new : Host S A T D) (told telling : E) (status : ℕ) : Type 0 where
   pub line : Line
-  pub line_is : IsLineIn words line
+  pub line_is : IsLineIn IsLine words line
   pub runs : RunsOrChecks view errors line old new told telling status
 
-abbrev pub Runs : {D I S A T E : Type 0} → HostView D I S T → (E → Screen) → Result (Vec (String Global) Global) LineFault
-    → Host S A T D → Host S A T D → E → E → ℕ → Type 0
+abbrev pub Runs : {D I S A T E : Type 0} → HostView D I S T → (E → Screen) → Words → Host S A T D → Host S A T D → E → E → ℕ → Type 0
 Runs view errors words old new told telling status =
-    Refuses view.screen errors words ((new.commands ≡ old.commands) × (new.disk ≡ old.disk)) old.terminal new.terminal told telling status
+    Refuses (console view.screen old.terminal new.terminal errors told telling) (said (codes "no memory")) IsLineFault words
+    ((new.commands ≡ old.commands) × (new.disk ≡ old.disk)) status
     ⊎ RunsOverLine view errors words old new told telling status

@@ -5,7 +5,7 @@ use Rattle.teco_io.specs.Source.{Gives, HasEnded}
 use Rattle.teco_fs.specs.declared.unkept.Unkept.{Unkept}
 use Rattle.teco_fs.specs.Seen.{DiskSeen}
 use Rattle.teco_serve.specs.declared.fate.Fate.{Fate}
-use Rattle.teco_io.specs.Terminal.{Screen, Shows}
+use Rattle.teco_io.specs.Terminal.{Screen}
 
 -- what is seen of the commands of a run
 pub record CommandsSeen : Type 1 where
@@ -25,16 +25,6 @@ commands_seen source old new asked = record {
   ended = HasEnded (source.coming new) (source.ended new);
   asked = asked;
 }
-
--- what is seen of the terminal of a run
-pub record TerminalSeen : Type 1 where
-  -- nothing was put on it
-  pub still : Type 0
-  -- which bytes it showed, and whether a put failed
-  pub showed : List ℕ → Bool → Type 0
-
-abbrev pub terminal_seen : {T : Type 0} → (T → Screen) → T → T → TerminalSeen
-terminal_seen screen old new = record { still = new ≡ old; showed = Shows (screen old) (screen new) }
 
 -- what is seen of where the input comes from
 pub record InputSeen : Type 1 where

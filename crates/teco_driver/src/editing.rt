@@ -9,8 +9,8 @@ ghost use Rattle.teco_serve.specs.Exchange.{HasRung};
 ghost use Rattle.teco_serve.specs.Ending.{output_of};
 ghost use Rattle.teco_session.specs.History.{present};
 ghost use Rattle.teco_driver.specs.Run.{EndsBy, FinishesIn, bounds_of, depth_of, doings_after, history_over, named_output, replaces_input, standard_output};
-ghost use Rattle.teco_driver.specs.Given.{EditsByStream, EditsInput, KeepsStream, host_view};
-ghost use Rattle.teco_fs.specs.Seen.{disk_seen};
+ghost use Rattle.teco_driver.specs.Given.{EditsByStream, EditsInput, host_view};
+ghost use Rattle.teco_fs.specs.Seen.{KeepsStream, disk_seen};
 ghost use Rattle.teco_driver.specs.Seen.{commands_seen};
 ghost use Rattle.teco_fs.specs.Writing.{both};
 ghost use Rattle.teco_session.specs.Kept.{history_of};
@@ -229,7 +229,7 @@ pub fn edit_by<C: Source, S: Source, A: Alarm, T: Terminal, L: Listens, D: Disk>
     requires depth { IfSome line.now.undo IsDepth }
     ensures edits { let view = host_view (disk_seen D.Disk D.Input.Source) S.Source T.screen (HasRung A.answered) in
         EditsInput view line.now name.now (commands_seen C.Source commands.old commands.new view.asked) host.old host.new result }
-    ensures still { KeepsStream name.now host.old host.new }
+    ensures still { KeepsStream name.now host.old.commands host.new.commands }
 {
     let input = match input_at(alloc, line, name, &mut host.commands, &mut host.disk) {
         Ok(input) => input,

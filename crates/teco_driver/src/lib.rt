@@ -16,8 +16,10 @@ mod sources;
 mod verdict;
 
 pub use checked::checked_laws;
-pub use concluding::{NO_MEMORY, conclude, no_memory};
-pub use giving::{Feed, edit_given, feed_of};
+pub(crate) use concluding::{NO_MEMORY, conclude, no_memory};
+pub(crate) use giving::{Feed, edit_given, feed_of};
 pub use host::Host;
 pub use running::program;
-pub use sources::{CommandsFault, ReadSource, ReadSources, commands_given, decline, source_name};
+pub(crate) use sources::{
+    CommandsFault, ReadSource, ReadSources, commands_given, decline, source_name,
+};

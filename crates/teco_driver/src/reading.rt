@@ -17,7 +17,7 @@ use teco_serve::Fate;
 
 /// Reads a file whole.
 pub fn input_of_file<D: Disk>(alloc: Global, name: &str, disk: &mut D) -> Result<Vec<u8>, Fate>
-    ensures input { IfOk result (λ input. IsInput (D.files disk.old) name.now input.items) }
+    ensures input { IfOk result (λ input. IsInput (D.seen disk.old).files name.now input.items) }
     ensures small { IfOk result (λ input. vec_len input ≤ FILE_LIMIT) }
     ensures fault { let seen = disk_seen D.Disk D.Input.Source in
         IfErr result (LacksInput (seen disk.old) (seen disk.new) name.now) }
@@ -40,7 +40,7 @@ fn input_in_place<D: Disk>(
     waits: bool,
     disk: &mut D,
 ) -> Result<Vec<u8>, Fate>
-    ensures input { IfOk result (λ input. IsInput (D.files disk.old) name.now input.items) }
+    ensures input { IfOk result (λ input. IsInput (D.seen disk.old).files name.now input.items) }
     ensures small { IfOk result (λ input. vec_len input ≤ FILE_LIMIT) }
     ensures fault { let seen = disk_seen D.Disk D.Input.Source in
         IfErr result (Lacks true (named_input (seen disk.old) (seen disk.new) name.now)) }
@@ -65,7 +65,7 @@ pub fn input_of<D: Disk>(
     name: &str,
     disk: &mut D,
 ) -> Result<Vec<u8>, Fate>
-    ensures input { IfOk result (λ input. IsInput (D.files disk.old) name.now input.items) }
+    ensures input { IfOk result (λ input. IsInput (D.seen disk.old).files name.now input.items) }
     ensures small { IfOk result (λ input. vec_len input ≤ FILE_LIMIT) }
     ensures fault { let seen = disk_seen D.Disk D.Input.Source in
         IfErr result (Lacks line.now.in_place (named_input (seen disk.old) (seen disk.new) name.now)) }

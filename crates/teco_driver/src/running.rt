@@ -1,10 +1,10 @@
 //! What the program does, on any disk, terminal and commands.
-ghost use Rattle.std.specs.Prelude.{◌≡◌, false, IfErr, IfOk, IfSome};
+ghost use Rattle.std.specs.Prelude.{◌≡◌, false, IfSome};
 ghost use Rattle.std.specs.Process.{exit_status};
-ghost use Rattle.teco_cli.specs.CommandLine.{IsDepth};
+ghost use Rattle.teco_cli.specs.CommandLine.{IsDepth, IsLine};
 ghost use Rattle.teco_cli.specs.Conflict.{has_conflict};
 ghost use Rattle.teco_serve.specs.Exchange.{HasRung};
-ghost use Rattle.teco_driver.specs.Lines.{IsFaultIn, IsLineIn};
+ghost use Rattle.teco_cli.specs.Words.{IsLineIn};
 ghost use Rattle.teco_driver.specs.Given.{host_view};
 ghost use Rattle.teco_driver.specs.Runs.{Runs, RunsOrChecks};
 ghost use Rattle.teco_fs.specs.Seen.{disk_seen};
@@ -14,22 +14,10 @@ use crate::several::{edit_all, edit_told};
 use crate::{Host, NO_MEMORY, feed_of};
 use std::alloc::Global;
 use std::process::ExitCode;
-use teco_cli::{Line, LineFault, line_of};
+use teco_cli::{Line, LineFault, line_in};
 use teco_fs::{Disk, refuse};
 use teco_io::{Source, Terminal};
 use teco_serve::Alarm;
-
-fn line_in(alloc: Global, words: Result<Vec<String>, LineFault>) -> Result<Line, LineFault>
-    ensures line { IfOk result (IsLineIn words) }
-    ensures depth { IfOk result (λ line. IfSome line.undo IsDepth) }
-    ensures fits { IfOk result (λ line. has_conflict line ≡ false) }
-    ensures fault { IfErr result (IsFaultIn words) }
-{
-    match words {
-        Ok(words) => line_of(alloc, words.as_slice()),
-        Err(fault) => Err(fault),
-    }
-}
 
 /// Runs over a line, or checks it if it asks for that, and tells how that ends. Gives the status.
 fn run_over<S: Source, A: Alarm, T: Terminal, E: Terminal, N: Terminal, D: Disk>(
@@ -66,9 +54,9 @@ pub fn program<S: Source, A: Alarm, T: Terminal, E: Terminal, N: Terminal, D: Di
 ) -> ExitCode
     ensures run { let view = host_view (disk_seen D.Disk D.Input.Source) S.Source T.screen (HasRung A.answered) in
         Runs view E.screen words host.old host.new errors.old errors.new (exit_status result) }
-    ensures silent { (line : Line) → IsLineIn words line → line.explain ≡ false → notes.new ≡ notes.old }
+    ensures silent { (line : Line) → IsLineIn IsLine words line → line.explain ≡ false → notes.new ≡ notes.old }
 {
-    match line_in(alloc, words) {
+    match line_in::<Line>(alloc, words) {
         Ok(line) => ExitCode::from(run_over(alloc, &line, host, errors, notes)),
         Err(fault) => ExitCode::from(refuse(&fault, NO_MEMORY, &mut host.terminal, errors)),
     }

@@ -134,7 +134,7 @@ fn whole_of<S: Source, D: Disk>(
     disk: &mut D,
 ) -> Result<Vec<u8>, Fate>
     ensures whole { IfOk result (λ bytes. IsWholeOf (is_standard_input name.now)
-        S.Source (D.files disk.old) name.now
+        S.Source (D.seen disk.old).files name.now
         stream.old stream.new bytes.items) }
     ensures fails { let seen = disk_seen D.Disk D.Input.Source in
         IfErr result (FailsToGive (is_standard_input name.now)
@@ -157,7 +157,7 @@ fn bytes_of<S: Source, D: Disk>(
     disk: &mut D,
 ) -> Result<Vec<u8>, CommandsFault>
     ensures whole { IfOk result (λ bytes. IsWholeOf (is_standard_input name.now)
-        S.Source (D.files disk.old) name.now
+        S.Source (D.seen disk.old).files name.now
         stream.old stream.new bytes.items) }
     ensures unread { let seen = disk_seen D.Disk D.Input.Source in
         IfErr result (IsUnread S.Source (seen disk.old) (seen disk.new)
@@ -179,7 +179,7 @@ fn commands_in_files<S: Source, D: Disk>(
     parts: &mut ReadSources,
 ) -> Result<Vec<u8>, CommandsFault>
     ensures read { IfOk result (λ made. AreCommandsIn S.Source
-        (D.files disk.old) names.now stream.old stream.new made.items) }
+        (D.seen disk.old).files names.now stream.old stream.new made.items) }
     ensures fault { let seen = disk_seen D.Disk D.Input.Source in
         IfErr result (LacksFiles S.Source
         names.now (seen disk.old) (seen disk.new) stream.old stream.new) }
@@ -239,7 +239,7 @@ pub fn commands_given<S: Source, D: Disk>(
 ) -> Result<Vec<u8>, CommandsFault>
     requires { are_awaited commands.now ≡ false }
     ensures given { IfOk result (λ bytes. IsGivenBy S.Source
-        commands.now (D.files disk.old) stream.old stream.new bytes.items) }
+        commands.now (D.seen disk.old).files stream.old stream.new bytes.items) }
     ensures lacks { let seen = disk_seen D.Disk D.Input.Source in
         IfErr result (LacksCommands S.Source
         commands.now (seen disk.old) (seen disk.new) stream.old stream.new) }

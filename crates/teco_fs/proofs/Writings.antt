@@ -7,6 +7,7 @@ use Rattle.teco_fs.proofs.Disks.{IsRenaming}
 use Rattle.teco_fs.specs.Disk.{Appends, Changes, Creates, Files, IsWhole, LeavesFiles, Passes, Removes, Renames, Replaces, Same, SameBut}
 use Rattle.teco_fs.specs.Draft.{draft_beside}
 use Rattle.teco_fs.specs.Seen.{IsAsked}
+use Rattle.teco_fs.specs.State.{DiskState}
 use Rattle.teco_fs.specs.Writing.{AddsDrafts, HasDraft, IfChanged, IfWhole, IsDraftOf, IsPut, IsTaking, IsWriting, UnlessWhole, Writes}
 use Rattle.teco_fs.specs.declared.output.Written.{Written}
 use Rattle.teco_fs.specs.declared.output.Written.TheVariants.{Whole, Changed}
@@ -173,9 +174,9 @@ module _ {file draft bytes : List ℕ} where
         | inr now ↦ inr (taken differ made_is.2 now)
       ]
 
-module _ {D : Type 0} {files : D → Option Files} {changed : D → List ℕ → Type 0} {read bytes : List ℕ} {old mid : Option Files} where
+module _ {D : Type 0} {seen : D → DiskState} {read bytes : List ℕ} {old mid : Option Files} where
   -- asked when the draft was whole
-  pub asked_whole : {draft : List ℕ} → Changes old mid (Creates draft bytes) → IsAsked files changed read mid Same → IsAsked files changed read old (λ before now. now draft ≡ Some bytes)
+  pub asked_whole : {draft : List ℕ} → Changes old mid (Creates draft bytes) → IsAsked seen read mid Same → IsAsked seen read old (λ before now. now draft ≡ Some bytes)
   asked_whole {draft} creates asked = record {
     disk = asked.disk;
     then = λ before told.
@@ -187,7 +188,7 @@ module _ {D : Type 0} {files : D → Option Files} {changed : D → List ℕ →
 
   -- after other drafts were tried
   pub asked_later : {file draft : List ℕ} (number : ℕ) → draft ≡ draft_beside file number → Changes old mid (AddsDrafts file)
-      → IsAsked files changed read mid (λ before now. now draft ≡ Some bytes) → IsAsked files changed read old (HasDraft file bytes)
+      → IsAsked seen read mid (λ before now. now draft ≡ Some bytes) → IsAsked seen read old (HasDraft file bytes)
   asked_later {file} {draft} number named adds asked = record {
     disk = asked.disk;
     then = λ before told.
@@ -199,7 +200,7 @@ module _ {D : Type 0} {files : D → Option Files} {changed : D → List ℕ →
 
   -- of the file that the output's name leads to
   pub asked_in : {name file : List ℕ} {had : Option (List ℕ)} → (old ≢ None → file ≡ name) → mid ≡ old
-      → IsAsked files changed read mid (HasDraft file bytes) → IsAsked files changed read old (λ before now. had ≡ None → HasDraft name bytes before now)
+      → IsAsked seen read mid (HasDraft file bytes) → IsAsked seen read old (λ before now. had ≡ None → HasDraft name bytes before now)
   asked_in {name} {file} {had} is same asked = record {
     disk = asked.disk;
     then = λ before told.
@@ -210,7 +211,7 @@ module _ {D : Type 0} {files : D → Option Files} {changed : D → List ℕ →
 
   -- of a stream there is no draft
   pub asked_on : (name : List ℕ) {had : Option (List ℕ)} → (old ≢ None → (given : List ℕ) × (had ≡ Some given)) → mid ≡ old
-      → IsAsked files changed read mid Same → IsAsked files changed read old (λ before now. had ≡ None → HasDraft name bytes before now)
+      → IsAsked seen read mid Same → IsAsked seen read old (λ before now. had ≡ None → HasDraft name bytes before now)
   asked_on name {had} is same asked = record {
     disk = asked.disk;
     then = λ before told.

@@ -1,4 +1,5 @@
 pub mod Disk
+pub mod State
 pub mod FileLog
 pub mod Unkept
 pub mod Seen
@@ -6,4 +7,5 @@ pub mod Reading
 pub mod Draft
 pub mod Reasons
 pub mod Writing
+pub mod Console
 pub mod Refusing

@@ -1,5 +1,7 @@
 -- Why a file or a stream can't be read or written: by the kind of the system's error, and in words.
-use Rattle.std.specs.Prelude.{ℕ, List, ◌++◌, codes}
+use Rattle.std.specs.Prelude.{◌≡◌, ◌≢◌, ℕ, List, ◌++◌, codes}
+use Rattle.std.specs.IoError.{error_kind}
+use Rattle.std.specs.declared.io.Error.{Error}
 use Rattle.std.specs.declared.io.ErrorKind.{ErrorKind}
 use Rattle.std.specs.declared.io.ErrorKind.TheVariants as kind
 use Rattle.teco_fs.specs.declared.reason.Reason.{Reason}
@@ -41,3 +43,8 @@ reason_words WriteFailed = codes "a write failed"
 -- what can't be done with a file, and why
 abbrev pub with_reason : List ℕ → List ℕ → Reason → List ℕ
 with_reason what name reason = what ++ name ++ codes ": " ++ reason_words reason
+
+-- What an error of the system comes to: to this fate where it is want of memory, otherwise to the one that its reason makes.
+pub record ComesTo {F : Type 0} (error : Error) (wanted : F) (by_reason : Reason → F) (fate : F) : Type 0 where
+  pub memory : error_kind error ≡ kind.OutOfMemory → fate ≡ wanted
+  pub other_is : error_kind error ≢ kind.OutOfMemory → fate ≡ by_reason (reason_of (error_kind error))

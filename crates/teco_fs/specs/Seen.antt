@@ -1,24 +1,20 @@
 -- What is seen of what a run changes: its disk, its standard input and its terminal.
-use Rattle.std.specs.Prelude.{◌≡◌, ℕ, List, Option, Bool, false}
+use Rattle.std.specs.Prelude.{◌≡◌, ℕ, List, Option, false}
 use Rattle.std.specs.declared.io.Error.{Error}
 use Rattle.teco_io.specs.declared.source.Source.{Ghosts as SourceView}
 use Rattle.teco_fs.specs.Disk.{Changes, Files}
+use Rattle.teco_fs.specs.State.{DiskState}
 use Rattle.teco_fs.specs.declared.disk.Disk.{Ghosts as DiskView}
 use Rattle.teco_fs.specs.declared.unkept.Unkept.{Unkept}
 use Rattle.teco_cli.specs.StreamNames.{is_standard_input}
 
--- how a source is seen at each of its states, by the members of its trait
-abbrev pub source_view : {S : Type 0} → (S → Option (List ℕ)) → (S → ℕ) → (S → ℕ) → (S → Bool) → SourceView S
-source_view coming bound failures ended =
-    record { coming = coming; bound = bound; failures = failures; ended = ended }
-
 -- A disk was asked whether the file of this name is what it was when it was opened, and said so. Then its files were related so to those
 -- from before.
-pub record IsAsked {D : Type 0} (files : D → Option Files) (changed : D → List ℕ → Type 0) (name : List ℕ) (before : Option Files)
-    (change : Files → Files → Type 0) : Type 0 where
+pub record IsAsked {D : Type 0} (seen : D → DiskState) (name : List ℕ) (before : Option Files) (change : Files → Files → Type 0)
+    : Type 0 where
   pub disk : D
-  pub then : Changes before (files disk) change
-  pub as_read : changed disk name → ⊥
+  pub then : Changes before (seen disk).files change
+  pub as_read : (seen disk).changed name → ⊥
 
 -- what is seen of a disk at a moment; `I` is what its files are read from
 pub record DiskSeen (I : Type 0) : Type 1 where
@@ -41,13 +37,13 @@ pub record DiskSeen (I : Type 0) : Type 1 where
 
 abbrev pub disk_seen : {D I R : Type 0} → DiskView D I R → SourceView I → D → DiskSeen I
 disk_seen view input disk = record {
-  files = view.files disk;
-  streams = view.streams disk;
-  left = view.left disk;
-  gave = view.gave disk;
-  changed = view.changed disk;
-  unkept = view.unkept disk;
-  asked = IsAsked view.files view.changed;
+  files = (view.seen disk).files;
+  streams = (view.seen disk).streams;
+  left = (view.seen disk).left;
+  gave = (view.seen disk).gave;
+  changed = (view.seen disk).changed;
+  unkept = (view.seen disk).unkept;
+  asked = IsAsked view.seen;
   input = input;
 }
 
@@ -67,5 +63,5 @@ abbrev pub host : {D S T : Type 0} → D → S → T → Host D S T
 host disk stream term = record { disk = disk; stream = stream; term = term }
 
 -- What comes on standard input stays as it is, unless the input comes from there.
-abbrev pub KeepsStream : {D S T : Type 0} → List ℕ → Host D S T → Host D S T → Type 0
-KeepsStream input old new = is_standard_input input ≡ false → new.stream ≡ old.stream
+abbrev pub KeepsStream : {S : Type 0} → List ℕ → S → S → Type 0
+KeepsStream input old new = is_standard_input input ≡ false → new ≡ old

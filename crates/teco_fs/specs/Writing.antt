@@ -10,6 +10,7 @@ use Rattle.teco_fs.specs.Draft.{draft_beside}
 use Rattle.teco_fs.specs.declared.output.Written.{Written}
 use Rattle.teco_fs.specs.declared.output.Written.TheVariants.{Whole, Changed}
 use Rattle.teco_fs.specs.Seen.{DiskSeen}
+use Rattle.teco_fs.specs.State.{DiskState}
 
 -- the bytes of two parts, one after the other
 abbrev pub both : Bor (List ℕ) × Bor (List ℕ) → List ℕ
@@ -52,9 +53,9 @@ UnlessWhole (Ok Changed) fact = fact
 UnlessWhole (Err error) fact = fact
 
 -- The file that was read, if one was, isn't what it was then.
-abbrev pub HasChanged : {D : Type 0} → (D → List ℕ → Type 0) → D → Option (Bor (List ℕ)) → Type 0
-HasChanged changed disk None = ⊥
-HasChanged changed disk (Some read) = changed disk read.now
+abbrev pub HasChanged : DiskState → Option (Bor (List ℕ)) → Type 0
+HasChanged disk None = ⊥
+HasChanged disk (Some read) = disk.changed read.now
 
 -- Each file that was there is as it was, and the file too if it was not there. There may be drafts more.
 pub record AddsDrafts (file : List ℕ) (before after : Files) : Type 0 where

@@ -9,7 +9,7 @@ use teco_io::gives_just;
 
 /// Whether a file has these bytes, in two parts one after the other.
 pub fn has_bytes<D: Disk>(name: &str, bytes: (&[u8], &[u8]), disk: &mut D) -> bool
-    ensures same { result ≡ true → (before : Files) → D.files disk.old ≡ Some before
+    ensures same { result ≡ true → (before : Files) → (D.seen disk.old).files ≡ Some before
         → before name.now ≡ Some (both bytes.entry) }
     ensures keeps { let seen = disk_seen D.Disk D.Input.Source in
         KeepsDisk (seen disk.old) (seen disk.new) }

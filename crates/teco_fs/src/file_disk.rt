@@ -168,25 +168,19 @@ where
 
     type Draft = R::File;
 
-    ghost files = { λ _. None };
-
-    ghost left = { λ _ _. ⊤ };
-
-    ghost streams = { λ _ _. None };
-
-    ghost failures = { λ disk. disk.failures.times };
-
-    ghost gave = { λ disk error. disk.failures.last ≡ Some error };
+    ghost seen = { λ disk. record {
+      files = None;
+      streams = λ _. None;
+      left = λ _. ⊤;
+      failures = disk.failures.times;
+      gave = λ error. disk.failures.last ≡ Some error;
+      kept = λ _. ⊤;
+      unremoved = λ _. ⊤;
+      changed = λ _. disk.changed ≡ true;
+      unkept = λ what. disk.unkept ≡ what;
+    } };
 
     ghost is_of = { λ _ _. ⊤ };
-
-    ghost kept = { λ _ _. ⊤ };
-
-    ghost unremoved = { λ _ _. ⊤ };
-
-    ghost changed = { λ disk _. disk.changed ≡ true };
-
-    ghost unkept = { λ disk what. disk.unkept ≡ what };
 
     fn open(&mut self, name: &str) -> io::Result<ReaderSource<R::File>> {
         let opened = open_noted(self.rt, name, &mut self.opened);

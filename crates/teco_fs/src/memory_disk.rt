@@ -128,27 +128,21 @@ impl Disk for MemoryDisk {
 
     type Draft = ();
 
-    ghost files = { λ disk. Some (files_of disk.log) };
-
-    // Each call makes one note at most. So the files were at each moment as the log told them after some note.
-    ghost left = { λ disk files. WereOnce disk.log files };
-
-    ghost streams = { λ disk. files_of disk.devices };
-
-    ghost failures = { λ disk. disk.failures.times };
-
-    ghost gave = { λ disk error. disk.failures.last ≡ Some error };
+    // Each call makes one note at most. So the files were at each moment as the log told them after some note. What is noted outlasts a
+    // crash.
+    ghost seen = { λ disk. record {
+      files = Some (files_of disk.log);
+      streams = files_of disk.devices;
+      left = λ files. WereOnce disk.log files;
+      failures = disk.failures.times;
+      gave = λ error. disk.failures.last ≡ Some error;
+      kept = λ _. ⊤;
+      unremoved = λ _. disk.unremoved ≡ true;
+      changed = λ _. disk.refused ≡ Changed;
+      unkept = λ what. disk.unkept ≡ what;
+    } };
 
     ghost is_of = { λ _ _. ⊤ };
-
-    // What is noted outlasts a crash.
-    ghost kept = { λ _ _. ⊤ };
-
-    ghost unremoved = { λ disk _. disk.unremoved ≡ true };
-
-    ghost changed = { λ disk _. disk.refused ≡ Changed };
-
-    ghost unkept = { λ disk what. disk.unkept ≡ what };
 
     fn open(&mut self, name: &str) -> io::Result<MemorySource> {
         let opened = self.log.opened(self.refused, name);

@@ -1,10 +1,10 @@
 //! Writing the output.
 ghost use Rattle.std.specs.Prelude.{◌≡◌, ◌≢◌, ◌⊎◌, List, ℕ, None, IfErr, IfOk, IfSome, OnErr, OnOk, Some};
 ghost use Rattle.std.specs.String.{string_bytes};
-ghost use Rattle.std.specs.declared.io.Error.{Error};
 ghost use Rattle.teco_fs.specs.Draft.{draft_beside};
-ghost use Rattle.teco_fs.specs.Disk.{Appends, Changes, Counts, Creates, Files, IsWhole, LeavesFiles, Passes, Removes, Renames, Replaces, Same, SameBut};
+ghost use Rattle.teco_fs.specs.Disk.{Appends, Creates, Files, IsWhole, LeavesFiles, Removes, Renames, Replaces, Same, SameBut};
 ghost use Rattle.teco_fs.specs.Seen.{IsAsked};
+ghost use Rattle.teco_fs.specs.State.{FilesChange, FilesPass, KeepsStreams, KeepsStreamsUntold};
 ghost use Rattle.teco_fs.specs.Writing.{AddsDrafts, HasChanged, HasDraft, IfChanged, IfWhole, IfWholeWith, IsPut, IsTaking, IsWriteError, IsWriting, UnlessWhole, Writes, both};
 
 use crate::{Disk, Target, Unkept};
@@ -25,14 +25,12 @@ fn fill<D: Disk>(
     bytes: (&[u8], &[u8]),
 ) -> io::Result<()>
     requires { D.is_of draft.old name.now }
-    ensures ok { OnOk result (Changes (D.files disk.old) (D.files disk.new)
+    ensures ok { OnOk result (FilesChange (D.seen disk.old) (D.seen disk.new)
         (Appends name.now (both bytes.entry))) }
-    ensures kept { OnOk result (D.kept disk.new name.now) }
-    ensures err { OnErr result (Changes (D.files disk.old) (D.files disk.new) (SameBut name.now)) }
-    ensures streams { D.streams disk.new ≡ D.streams disk.old }
-    ensures moments { Passes (D.files disk.old) (D.left disk.old) (D.left disk.new) (SameBut name.now) }
-    ensures count { Counts result (D.failures disk.old) (D.failures disk.new) }
-    ensures error { IfErr result (D.gave disk.new) }
+    ensures kept { OnOk result ((D.seen disk.new).kept name.now) }
+    ensures err { OnErr result (FilesChange (D.seen disk.old) (D.seen disk.new) (SameBut name.now)) }
+    ensures moments { FilesPass (D.seen disk.old) (D.seen disk.new) (SameBut name.now) }
+    ensures still { KeepsStreams result (D.seen disk.old) (D.seen disk.new) }
 {
     disk.write(draft, name, bytes.0)?;
     disk.write(draft, name, bytes.1)?;
@@ -42,16 +40,14 @@ fn fill<D: Disk>(
 
 /// Makes a draft with these bytes, which outlast a crash. Where they can't be written, it is removed again.
 fn create<D: Disk>(disk: &mut D, name: &str, bytes: (&[u8], &[u8])) -> io::Result<()>
-    ensures ok { OnOk result (Changes (D.files disk.old) (D.files disk.new)
+    ensures ok { OnOk result (FilesChange (D.seen disk.old) (D.seen disk.new)
         (Creates name.now (both bytes.entry))) }
-    ensures kept { OnOk result (D.kept disk.new name.now) }
-    ensures err { OnErr result (Changes (D.files disk.old) (D.files disk.new) (LeavesFiles name.now)) }
-    ensures removed { OnErr result (Changes (D.files disk.old) (D.files disk.new) Same
-        ⊎ D.unremoved disk.new name.now) }
-    ensures streams { D.streams disk.new ≡ D.streams disk.old }
-    ensures moments { Passes (D.files disk.old) (D.left disk.old) (D.left disk.new) (SameBut name.now) }
-    ensures count { Counts result (D.failures disk.old) (D.failures disk.new) }
-    ensures error { IfErr result (D.gave disk.new) }
+    ensures kept { OnOk result ((D.seen disk.new).kept name.now) }
+    ensures err { OnErr result (FilesChange (D.seen disk.old) (D.seen disk.new) (LeavesFiles name.now)) }
+    ensures removed { OnErr result (FilesChange (D.seen disk.old) (D.seen disk.new) Same
+        ⊎ (D.seen disk.new).unremoved name.now) }
+    ensures moments { FilesPass (D.seen disk.old) (D.seen disk.new) (SameBut name.now) }
+    ensures still { KeepsStreams result (D.seen disk.old) (D.seen disk.new) }
 {
     let mut draft = disk.make(name)?;
     if let Err(error) = fill(disk, &mut draft, name, bytes) {
@@ -72,13 +68,10 @@ pub enum Written {
 
 /// Removes a draft that is not needed, if the system lets us.
 fn discard<D: Disk>(disk: &mut D, draft: &str)
-    ensures removed { Changes (D.files disk.old) (D.files disk.new) (Removes draft.now) ⊎ D.unremoved disk.new draft.now }
-    ensures others { Changes (D.files disk.old) (D.files disk.new) (SameBut draft.now) }
-    ensures streams { D.streams disk.new ≡ D.streams disk.old }
-    ensures moments { Passes (D.files disk.old) (D.left disk.old) (D.left disk.new) (SameBut draft.now) }
-    ensures count { D.failures disk.new ≡ D.failures disk.old }
-    ensures changed { (file : List ℕ) → D.changed disk.old file → D.changed disk.new file }
-    ensures errors { (error : Error) → D.gave disk.old error → D.gave disk.new error }
+    ensures removed { FilesChange (D.seen disk.old) (D.seen disk.new) (Removes draft.now) ⊎ (D.seen disk.new).unremoved draft.now }
+    ensures others { FilesChange (D.seen disk.old) (D.seen disk.new) (SameBut draft.now) }
+    ensures moments { FilesPass (D.seen disk.old) (D.seen disk.new) (SameBut draft.now) }
+    ensures still { KeepsStreamsUntold (D.seen disk.old) (D.seen disk.new) }
 {
     let _ = disk.remove(draft);
 }
@@ -86,17 +79,15 @@ fn discard<D: Disk>(disk: &mut D, draft: &str)
 /// Gives a draft the name of the file whose place it takes. Where that fails the draft is removed.
 fn take_name<D: Disk>(disk: &mut D, draft: &str, file: &str) -> io::Result<Written>
     requires { draft.now ≢ file.now }
-    ensures ok { IfWhole result (Changes (D.files disk.old) (D.files disk.new) (Renames draft.now file.now)) }
-    ensures unkept { IfWholeWith result (D.unkept disk.new) }
+    ensures ok { IfWhole result (FilesChange (D.seen disk.old) (D.seen disk.new) (Renames draft.now file.now)) }
+    ensures unkept { IfWholeWith result (D.seen disk.new).unkept }
     ensures unchanged { IfChanged result ⊥ }
-    ensures err { UnlessWhole result (Changes (D.files disk.old) (D.files disk.new) (SameBut draft.now)) }
-    ensures removed { UnlessWhole result (Changes (D.files disk.old) (D.files disk.new) (Removes draft.now)
-        ⊎ D.unremoved disk.new draft.now) }
-    ensures streams { D.streams disk.new ≡ D.streams disk.old }
-    ensures moments { D.kept disk.old draft.now → Passes (D.files disk.old) (D.left disk.old) (D.left disk.new)
+    ensures err { UnlessWhole result (FilesChange (D.seen disk.old) (D.seen disk.new) (SameBut draft.now)) }
+    ensures removed { UnlessWhole result (FilesChange (D.seen disk.old) (D.seen disk.new) (Removes draft.now)
+        ⊎ (D.seen disk.new).unremoved draft.now) }
+    ensures moments { (D.seen disk.old).kept draft.now → FilesPass (D.seen disk.old) (D.seen disk.new)
         (IsTaking draft.now file.now) }
-    ensures count { Counts result (D.failures disk.old) (D.failures disk.new) }
-    ensures error { IfErr result (D.gave disk.new) }
+    ensures still { KeepsStreams result (D.seen disk.old) (D.seen disk.new) }
 {
     match disk.rename(draft, file) {
         Ok(unkept) => Ok(Written::Whole(unkept)),
@@ -115,18 +106,16 @@ fn take_name_as_read<D: Disk>(
     file: &str,
 ) -> io::Result<Written>
     requires { draft.now ≢ file.now }
-    ensures ok { IfWhole result (Changes (D.files disk.old) (D.files disk.new) (Renames draft.now file.now)) }
-    ensures unkept { IfWholeWith result (D.unkept disk.new) }
-    ensures asked { IfWhole result (IsAsked D.files D.changed read.now (D.files disk.old) Same) }
-    ensures changed { IfChanged result (D.changed disk.new read.now) }
-    ensures err { UnlessWhole result (Changes (D.files disk.old) (D.files disk.new) (SameBut draft.now)) }
-    ensures removed { UnlessWhole result (Changes (D.files disk.old) (D.files disk.new) (Removes draft.now)
-        ⊎ D.unremoved disk.new draft.now) }
-    ensures streams { D.streams disk.new ≡ D.streams disk.old }
-    ensures moments { D.kept disk.old draft.now → Passes (D.files disk.old) (D.left disk.old) (D.left disk.new)
+    ensures ok { IfWhole result (FilesChange (D.seen disk.old) (D.seen disk.new) (Renames draft.now file.now)) }
+    ensures unkept { IfWholeWith result (D.seen disk.new).unkept }
+    ensures asked { IfWhole result (IsAsked D.seen read.now (D.seen disk.old).files Same) }
+    ensures changed { IfChanged result ((D.seen disk.new).changed read.now) }
+    ensures err { UnlessWhole result (FilesChange (D.seen disk.old) (D.seen disk.new) (SameBut draft.now)) }
+    ensures removed { UnlessWhole result (FilesChange (D.seen disk.old) (D.seen disk.new) (Removes draft.now)
+        ⊎ (D.seen disk.new).unremoved draft.now) }
+    ensures moments { (D.seen disk.old).kept draft.now → FilesPass (D.seen disk.old) (D.seen disk.new)
         (IsTaking draft.now file.now) }
-    ensures count { Counts result (D.failures disk.old) (D.failures disk.new) }
-    ensures error { IfErr result (D.gave disk.new) }
+    ensures still { KeepsStreams result (D.seen disk.old) (D.seen disk.new) }
 {
     match disk.is_as_read(read) {
         Ok(true) => take_name(disk, draft, file),
@@ -154,20 +143,18 @@ pub fn replace<D: Disk>(
     bytes: (&[u8], &[u8]),
 ) -> io::Result<Written>
     requires { draft.now ≢ file.now }
-    ensures ok { IfWhole result (Changes (D.files disk.old) (D.files disk.new)
+    ensures ok { IfWhole result (FilesChange (D.seen disk.old) (D.seen disk.new)
         (Replaces file.now (both bytes.entry))) }
-    ensures unkept { IfWholeWith result (D.unkept disk.new) }
-    ensures asked { IfWhole result (IfSome read.entry (λ read. IsAsked D.files D.changed read.now (D.files disk.old)
+    ensures unkept { IfWholeWith result (D.seen disk.new).unkept }
+    ensures asked { IfWhole result (IfSome read.entry (λ read. IsAsked D.seen read.now (D.seen disk.old).files
         (λ before now. now draft.now ≡ Some (both bytes.entry)))) }
-    ensures changed { IfChanged result (HasChanged D.changed disk.new read.entry) }
-    ensures err { UnlessWhole result (Changes (D.files disk.old) (D.files disk.new) (LeavesFiles draft.now)) }
-    ensures removed { UnlessWhole result (Changes (D.files disk.old) (D.files disk.new) Same
-        ⊎ D.unremoved disk.new draft.now) }
-    ensures streams { D.streams disk.new ≡ D.streams disk.old }
-    ensures moments { Passes (D.files disk.old) (D.left disk.old) (D.left disk.new)
+    ensures changed { IfChanged result (HasChanged (D.seen disk.new) read.entry) }
+    ensures err { UnlessWhole result (FilesChange (D.seen disk.old) (D.seen disk.new) (LeavesFiles draft.now)) }
+    ensures removed { UnlessWhole result (FilesChange (D.seen disk.old) (D.seen disk.new) Same
+        ⊎ (D.seen disk.new).unremoved draft.now) }
+    ensures moments { FilesPass (D.seen disk.old) (D.seen disk.new)
         (IsWhole file.now draft.now (both bytes.entry)) }
-    ensures count { Counts result (D.failures disk.old) (D.failures disk.new) }
-    ensures error { IfErr result (D.gave disk.new) }
+    ensures still { KeepsStreams result (D.seen disk.old) (D.seen disk.new) }
 {
     create(disk, draft, bytes)?;
     match read {
@@ -200,17 +187,17 @@ fn replace_file<D: Disk>(
     read: Option<&str>,
     bytes: (&[u8], &[u8]),
 ) -> io::Result<Written>
-    ensures ok { IfWhole result (Changes (D.files disk.old) (D.files disk.new)
+    ensures ok { IfWhole result (FilesChange (D.seen disk.old) (D.seen disk.new)
         (Writes file.now (both bytes.entry))) }
-    ensures unkept { IfWholeWith result (D.unkept disk.new) }
-    ensures asked { IfWhole result (IfSome read.entry (λ read. IsAsked D.files D.changed read.now (D.files disk.old)
+    ensures unkept { IfWholeWith result (D.seen disk.new).unkept }
+    ensures asked { IfWhole result (IfSome read.entry (λ read. IsAsked D.seen read.now (D.seen disk.old).files
         (HasDraft file.now (both bytes.entry)))) }
-    ensures changed { IfChanged result (HasChanged D.changed disk.new read.entry) }
-    ensures err { UnlessWhole result (Changes (D.files disk.old) (D.files disk.new) (AddsDrafts file.now)) }
-    ensures streams { D.streams disk.new ≡ D.streams disk.old }
-    ensures moments { Passes (D.files disk.old) (D.left disk.old) (D.left disk.new)
+    ensures changed { IfChanged result (HasChanged (D.seen disk.new) read.entry) }
+    ensures err { UnlessWhole result (FilesChange (D.seen disk.old) (D.seen disk.new) (AddsDrafts file.now)) }
+    ensures streams { (D.seen disk.new).streams ≡ (D.seen disk.old).streams }
+    ensures moments { FilesPass (D.seen disk.old) (D.seen disk.new)
         (IsWriting file.now (both bytes.entry)) }
-    ensures error { IfErr result (IsWriteError (D.gave disk.new)) }
+    ensures error { IfErr result (IsWriteError (D.seen disk.new).gave) }
 {
     'drafts: for draft_number in number..number.saturating_add(DRAFTS) {
         let draft = draft_name(alloc, file, draft_number)?;
@@ -231,14 +218,14 @@ fn append<D: Disk>(
     bytes: (&[u8], &[u8]),
 ) -> io::Result<Written>
     ensures ok { IfWhole result
-        (Appends name.now (both bytes.entry) (D.streams disk.old) (D.streams disk.new)) }
-    ensures unkept { IfWholeWith result (D.unkept disk.new) }
-    ensures asked { IfWhole result (IfSome read.entry (λ read. IsAsked D.files D.changed read.now (D.files disk.old) Same)) }
-    ensures changed { IfChanged result (HasChanged D.changed disk.new read.entry) }
-    ensures others { SameBut name.now (D.streams disk.old) (D.streams disk.new) }
-    ensures files { D.files disk.new ≡ D.files disk.old }
-    ensures moments { (files : Files) → D.left disk.new files → D.left disk.old files }
-    ensures error { IfErr result (D.gave disk.new) }
+        (Appends name.now (both bytes.entry) (D.seen disk.old).streams (D.seen disk.new).streams) }
+    ensures unkept { IfWholeWith result (D.seen disk.new).unkept }
+    ensures asked { IfWhole result (IfSome read.entry (λ read. IsAsked D.seen read.now (D.seen disk.old).files Same)) }
+    ensures changed { IfChanged result (HasChanged (D.seen disk.new) read.entry) }
+    ensures others { SameBut name.now (D.seen disk.old).streams (D.seen disk.new).streams }
+    ensures files { (D.seen disk.new).files ≡ (D.seen disk.old).files }
+    ensures moments { (files : Files) → (D.seen disk.new).left files → (D.seen disk.old).left files }
+    ensures error { IfErr result (D.seen disk.new).gave }
 {
     if let Some(was) = read {
         match disk.is_as_read(was) {
@@ -265,17 +252,17 @@ pub fn write_output<D: Disk>(
     read: Option<&str>,
     output: (&[u8], &[u8]),
 ) -> io::Result<Written>
-    ensures ok { IfWhole result (Changes (D.files disk.old) (D.files disk.new)
-        (IsPut name.now (both output.entry) (D.streams disk.old name.now) (D.streams disk.new name.now))) }
-    ensures unkept { IfWholeWith result (D.unkept disk.new) }
-    ensures asked { IfWhole result (IfSome read.entry (λ read. IsAsked D.files D.changed read.now (D.files disk.old)
-        (λ before now. D.streams disk.old name.now ≡ None → HasDraft name.now (both output.entry) before now))) }
-    ensures changed { IfChanged result (HasChanged D.changed disk.new read.entry) }
-    ensures err { UnlessWhole result (Changes (D.files disk.old) (D.files disk.new) (AddsDrafts name.now)) }
-    ensures streams { SameBut name.now (D.streams disk.old) (D.streams disk.new) }
-    ensures moments { Passes (D.files disk.old) (D.left disk.old) (D.left disk.new)
+    ensures ok { IfWhole result (FilesChange (D.seen disk.old) (D.seen disk.new)
+        (IsPut name.now (both output.entry) ((D.seen disk.old).streams name.now) ((D.seen disk.new).streams name.now))) }
+    ensures unkept { IfWholeWith result (D.seen disk.new).unkept }
+    ensures asked { IfWhole result (IfSome read.entry (λ read. IsAsked D.seen read.now (D.seen disk.old).files
+        (λ before now. (D.seen disk.old).streams name.now ≡ None → HasDraft name.now (both output.entry) before now))) }
+    ensures changed { IfChanged result (HasChanged (D.seen disk.new) read.entry) }
+    ensures err { UnlessWhole result (FilesChange (D.seen disk.old) (D.seen disk.new) (AddsDrafts name.now)) }
+    ensures streams { SameBut name.now (D.seen disk.old).streams (D.seen disk.new).streams }
+    ensures moments { FilesPass (D.seen disk.old) (D.seen disk.new)
         (IsWriting name.now (both output.entry)) }
-    ensures error { IfErr result (IsWriteError (D.gave disk.new)) }
+    ensures error { IfErr result (IsWriteError (D.seen disk.new).gave) }
 {
     match disk.target_of(name)? {
         Target::Stream => append(disk, name, read, output),

@@ -1,6 +1,7 @@
 //! Why a file or a stream can't be read or written.
 ghost use Rattle.std.specs.IoError.{error_kind};
-ghost use Rattle.std.specs.Prelude.{◌≡◌};
+ghost use Rattle.std.specs.Prelude.{◌≡◌, ◌≢◌};
+ghost use Rattle.std.specs.declared.io.ErrorKind.TheVariants as io_kind;
 ghost use Rattle.teco_fs.specs.Reasons.{reason_of, reason_words};
 
 use std::io;
@@ -80,5 +81,16 @@ impl Reason {
             Reason::ReadFailed => "a read failed",
             Reason::WriteFailed => "a write failed",
         }
+    }
+}
+
+/// What an error of the system comes to: to the one where it is want of memory, otherwise to the other.
+pub fn unless_memory<F: Drop>(error: io::Error, wanted: F, other: F) -> F
+    ensures memory { error_kind error ≡ io_kind.OutOfMemory → result ≡ wanted }
+    ensures other { error_kind error ≢ io_kind.OutOfMemory → result ≡ other }
+{
+    match error.kind() {
+        ErrorKind::OutOfMemory => wanted,
+        _ => other,
     }
 }

@@ -4,27 +4,19 @@
 use std::cell::Cell;
 use std::process;
 use std::process::ExitCode;
-use teco_cli::{LineFault, fault_of_words};
+use teco_cli::words_given;
 use teco_fs::{FileDisk, Piped, UntilLeft, hold_standard_streams};
 use teco_io::{ReaderSource, WriterTerminal};
-use tecol_driver::{not_text, program};
+use tecol_driver::{TecolLine, program};
 
 // That these are the program's words, streams and files is told by no contract.
-
-/// The words that the program was called with.
-fn words_given(rt: &HostRuntime) -> Result<Vec<String>, LineFault> {
-    match std::env::args(rt) {
-        Ok(words) => Ok(words.collect(rt.alloc())?),
-        Err(error) => Err(fault_of_words(error, not_text(rt.alloc()))),
-    }
-}
 
 fn main(rt: HostRuntime) -> ExitCode {
     hold_standard_streams(&rt);
     let has_left = Cell::new(false);
     program(
         rt.alloc(),
-        words_given(&rt),
+        words_given::<TecolLine, HostRuntime>(&rt),
         process::id(rt.process()),
         &mut ReaderSource::new(rt.stdin()),
         &mut WriterTerminal::new(Piped::new(rt.stdout(), &has_left)),

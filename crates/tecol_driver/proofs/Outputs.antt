@@ -1,24 +1,20 @@
--- Where the output goes, and what is told.
-use Rattle.std.proofs.Common.{◌≡◌, ◌≢◌, ◌⊎◌, inl, inr, ℕ, List, Bool, true, false, Option, Result, Ok, Err, Vec, Global, refl, sym, subst}
+-- Where the output goes.
+use Rattle.std.proofs.Common.{◌≡◌, ◌≢◌, ◌⊎◌, inl, inr, ℕ, List, Bool, true, false, Option, Ok, Vec, Global, refl, sym, subst}
 use Rattle.std.specs.declared.io.Error.{Error}
 use Rattle.teco_cli.specs.StreamNames.{is_standard_output}
-use Rattle.teco_fs.specs.Refusing.{Tells}
 use Rattle.teco_fs.specs.declared.reason.Reason.{Reason}
 use Rattle.teco_fs.specs.declared.reason.Reason.TheVariants.{WriteFailed}
 use Rattle.teco_fs.specs.declared.unkept.Unkept.{Unkept}
 use Rattle.teco_fs.specs.Writing.{WritesOutput}
 use Rattle.teco_fs.specs.Seen.{DiskSeen}
-use Rattle.teco_io.specs.Terminal.{Puts, Screen}
+use Rattle.teco_io.specs.Terminal.{Screen}
 use Rattle.tecol_driver.specs.Keeping.{FailsToWrite, MakesAndPuts, Output, PutsOut, fate_put, output_to}
 use Rattle.tecol_driver.specs.declared.fate.TecolFate.{TecolFate}
-use Rattle.tecol_driver.specs.Ending.{IsFateOf}
+use Rattle.std.specs.IoError.{error_kind}
+use Rattle.teco_fs.specs.Reasons.{ComesTo, reason_of}
 use Rattle.tecol_driver.specs.declared.fate.TecolFate.TheVariants.{Done, Faulty, Unreadable, NoInput, LargeInput, NoMemory, NoOutput}
 use Rattle.tecol_driver.specs.declared.made.Made.{Made}
 use Rattle.tecol_driver.specs.declared.made.Made.TheVariants as made
-
-pub tells_put : {A E : Type 0} {old new : Screen} {bytes : List ℕ} (result : Result A E) → Puts old new bytes result → Tells old new bytes
-tells_put (Ok done) p = inl p
-tells_put (Err fault) p = inr p
 
 -- the output goes to a file
 module _ {I T : Type 0} (screen : T → Screen) (name bytes : List ℕ) (before after : DiskSeen I) (term : T) (off : is_standard_output name ≡ false) where
@@ -34,10 +30,10 @@ abbrev pub IsNoOutput : TecolFate → Type 0
 IsNoOutput fate = (reason : Reason) × (fate ≡ NoOutput reason)
 
 -- an error's fate is want of memory or the other one
-no_other : {error : Error} {other fate : TecolFate} → IsFateOf error other fate → fate ≢ NoMemory → fate ≢ other → ⊥
+no_other : {error : Error} {by_reason : Reason → TecolFate} {fate : TecolFate} → ComesTo error NoMemory by_reason fate → fate ≢ NoMemory → fate ≢ by_reason (reason_of (error_kind error)) → ⊥
 no_other f not_memory not_other = not_other (f.other_is (λ memory. not_memory (f.memory memory)))
 
-of_error : {error : Error} {reason : Reason} (fate : TecolFate) → IsFateOf error (NoOutput reason) fate → (fate ≡ NoMemory) ⊎ IsNoOutput fate
+of_error : {error : Error} (fate : TecolFate) → ComesTo error NoMemory NoOutput fate → (fate ≡ NoMemory) ⊎ IsNoOutput fate
 of_error NoMemory is = inl refl
 of_error (NoOutput other) is = inr (other, refl)
 of_error (Done unkept) is = absurd (no_other is (λ e. cc) (λ e. cc))

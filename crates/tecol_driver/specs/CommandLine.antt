@@ -1,9 +1,6 @@
 -- What the command line says: tecol [OPTIONS] [FILE]
-use Rattle.std.specs.Prelude.{◌≡◌, ◌↔◌, ◌⊎◌, ⊤, List, [], ◌∷◌, codes, map, Some, unwrap_or, Bool, true, false, ◌&&◌, IsTrue, Result, Ok, Err}
+use Rattle.std.specs.Prelude.{◌≡◌, ◌↔◌, ◌⊎◌, ⊤, List, [], ◌∷◌, codes, map, Some, unwrap_or, Bool, true, false, ◌&&◌, IsTrue}
 use Rattle.std.specs.String.{string_bytes}
-use Rattle.std.specs.declared.alloc.Global.{Global}
-use Rattle.std.specs.declared.string.String.{String}
-use Rattle.std.specs.declared.vec.Vec.{Vec}
 use Rattle.clap.specs.Words.{App, IsAmong, Row, Rule, Text, fault_of, first_of, matches_of, new_app, new_rule, one_of, takes}
 use Rattle.clap.specs.declared.builder.action.ArgAction.TheVariants.{Set}
 use Rattle.clap.specs.declared.error.kind.ErrorKind.{ErrorKind}
@@ -92,13 +89,3 @@ pub record IsRefusedLine (words : List Text) (refusal : Refusal) : Type 0 where
 abbrev pub SayNoLine : List Text → LineFault → Type 0
 SayNoLine words line_fault.NoMemory = ⊤
 SayNoLine words (line_fault.Refused refusal) = IsRefusedLine words refusal
-
--- The words, where they were given, say this line.
-abbrev pub SayLineIn : Result (Vec (String Global) Global) LineFault → TecolLine → Type 0
-SayLineIn (Ok words) line = SayLine (map string_bytes words.items) line
-SayLineIn (Err fault) line = ⊥
-
--- Why there is no line: the words were not given, or they say none.
-abbrev pub SayNoLineIn : Result (Vec (String Global) Global) LineFault → LineFault → Type 0
-SayNoLineIn (Ok words) fault = SayNoLine (map string_bytes words.items) fault
-SayNoLineIn (Err given) fault = fault ≡ given

@@ -1,9 +1,6 @@
 -- How a run ends: its status, and the line that it prints on standard error.
-use Rattle.std.specs.Prelude.{◌≡◌, ◌≢◌, ℕ, List, [], ◌∷◌, ◌++◌, codes, min, length, Bool, true, Option, Some, None, is_some, if◌then◌else◌}
-use Rattle.std.specs.IoError.{error_kind}
+use Rattle.std.specs.Prelude.{ℕ, List, [], ◌∷◌, ◌++◌, codes, min, length, Bool, true, Option, Some, None, is_some, if◌then◌else◌}
 use Rattle.std.specs.String.{string_bytes}
-use Rattle.std.specs.declared.io.Error.{Error}
-use Rattle.std.specs.declared.io.ErrorKind.TheVariants.{OutOfMemory}
 use Rattle.teco_io.specs.declared.input.InputFault.{InputFault}
 use Rattle.teco_io.specs.declared.input.InputFault.TheVariants as input
 use Rattle.teco_fs.specs.Unkept.{is_text, unkept_words}
@@ -34,11 +31,6 @@ abbrev pub fate_without_input : InputFault → TecolFate
 fate_without_input input.Read = NoInput ReadFailed
 fate_without_input input.TooLarge = LargeInput
 fate_without_input input.Memory = NoMemory
-
--- The fate of an error: want of memory where the error is that, otherwise the other one.
-pub record IsFateOf (error : Error) (other fate : TecolFate) : Type 0 where
-  pub memory : error_kind error ≡ OutOfMemory → fate ≡ NoMemory
-  pub other_is : error_kind error ≢ OutOfMemory → fate ≡ other
 
 -- the line and the column of a place of a source, as far as it goes
 abbrev pub spot_in : List ℕ → ℕ → Spot

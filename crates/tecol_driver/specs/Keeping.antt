@@ -12,15 +12,14 @@ use Rattle.teco_io.specs.Input.{IsFaultOf}
 use Rattle.teco_io.specs.Source.{Gives}
 use Rattle.teco_io.specs.declared.input.InputFault.{InputFault}
 use Rattle.teco_cli.specs.StreamNames.{is_standard_input, is_standard_output}
-use Rattle.std.specs.IoError.{error_kind}
-use Rattle.teco_fs.specs.Reasons.{reason_of}
+use Rattle.teco_fs.specs.Reasons.{ComesTo}
 use Rattle.teco_fs.specs.Refusing.{Tells}
 use Rattle.teco_fs.specs.declared.reason.Reason.TheVariants.{WriteFailed}
 use Rattle.teco_fs.specs.Reading.{IsInput, IsStreamed}
 use Rattle.teco_fs.specs.Seen.{KeepsDisk, Host, KeepsStream, DiskSeen}
 use Rattle.teco_fs.specs.Writing.{WritesOutput, AddsDrafts, IsWriteError, IsWriting}
 use Rattle.teco_io.specs.Terminal.{IsFrontOf, Screen, Shows}
-use Rattle.tecol_driver.specs.Ending.{IsFateOf, fate_without_input, is_told, said, spot_in, status_of, text_of}
+use Rattle.tecol_driver.specs.Ending.{fate_without_input, is_told, said, spot_in, status_of, text_of}
 use Rattle.tecol_driver.specs.Made.{IsMade}
 use Rattle.tecol_driver.specs.declared.fate.TecolFate.{TecolFate}
 use Rattle.tecol_driver.specs.declared.fate.TecolFate.TheVariants.{Done, Faulty, Unreadable, NoInput, LargeInput, NoMemory, NoOutput}
@@ -39,7 +38,7 @@ pub record FailsToStream {S : Type 0} (source : SourceView S) (old new : S) (fat
 pub record FailsToOpen (gave : Error → Type 0) (fate : TecolFate) : Type 0 where
   pub error : Error
   pub given : gave error
-  pub fate_is : IsFateOf error (NoInput (reason_of (error_kind error))) fate
+  pub fate_is : ComesTo error NoMemory NoInput fate
 
 -- What the disk opened under the name was read, and that ended by a fault.
 pub record FailsToRead {I : Type 0} (input : SourceView I) (files : Option Files) (name : List ℕ)
@@ -69,7 +68,7 @@ pub record FailsToWrite {I : Type 0} (old new : DiskSeen I) (name bytes : List �
   pub moments : Passes old.files old.left new.left (IsWriting name bytes)
   pub error : Error
   pub given : IsWriteError new.gave error
-  pub fate_is : IsFateOf error (NoOutput (reason_of (error_kind error))) fate
+  pub fate_is : ComesTo error NoMemory NoOutput fate
 
 -- A beginning of the bytes was put, and then the terminal failed, which doesn't tell why.
 pub record FailsToPut (old new : Screen) (bytes : List ℕ) (fate : TecolFate) : Type 0 where
@@ -163,7 +162,7 @@ pub record RunsOver {D I S T : Type 0} (view : View D I S T) (line : TecolLine) 
   pub mid : D
   pub idle : KeepsDisk (view.disk old.disk) (view.disk mid)
   -- what comes on standard input stays as it is, unless the input comes from there
-  pub still : KeepsStream (string_bytes line.input) old new
+  pub still : KeepsStream (string_bytes line.input) old.stream new.stream
   pub input : Result (Vec ℕ Global) TecolFate
   pub reads : ReadsInput (is_standard_input (string_bytes line.input)) view.stream (string_bytes line.input)
       (view.disk old.disk) (view.disk mid) old.stream new.stream input

@@ -1,13 +1,11 @@
 //! How a run ends.
 ghost use Rattle.std.specs.Prelude.{◌≡◌};
-ghost use Rattle.std.specs.IoError.{error_kind};
-ghost use Rattle.teco_fs.specs.Reasons.{reason_of};
-ghost use Rattle.tecol_driver.specs.Ending.{IsFateOf, status_of, status_put};
-ghost use Rattle.tecol_driver.specs.declared.fate.TecolFate.TheVariants.{NoInput, NoOutput};
+ghost use Rattle.teco_fs.specs.Reasons.{ComesTo};
+ghost use Rattle.tecol_driver.specs.Ending.{status_of, status_put};
+ghost use Rattle.tecol_driver.specs.declared.fate.TecolFate.TheVariants.{NoInput, NoMemory, NoOutput};
 
 use std::io;
-use std::io::ErrorKind;
-use teco_fs::{Reason, Unkept, reason_of};
+use teco_fs::{Reason, Unkept, reason_of, unless_memory};
 use teco_io::InputFault;
 use teco_messages::Spot;
 
@@ -44,28 +42,26 @@ impl From<InputFault> for TecolFate {
     }
 }
 
-/// How a run ends at an error of the system: by want of memory where the error is that, otherwise as given.
-fn fate_of(error: io::Error, other: TecolFate) -> TecolFate
-    ensures { IsFateOf error other result }
-{
-    match error.kind() {
-        ErrorKind::OutOfMemory => TecolFate::NoMemory,
-        _ => other,
-    }
-}
-
 /// How a run ends where the input can't be opened.
 pub fn no_input(error: io::Error) -> TecolFate
-    ensures { IsFateOf error (NoInput (reason_of (error_kind error))) result }
+    ensures { ComesTo error NoMemory NoInput result }
 {
-    fate_of(error, TecolFate::NoInput(reason_of(error)))
+    unless_memory(
+        error,
+        TecolFate::NoMemory,
+        TecolFate::NoInput(reason_of(error)),
+    )
 }
 
 /// How it ends where the output can't be written.
 pub fn no_output(error: io::Error) -> TecolFate
-    ensures { IsFateOf error (NoOutput (reason_of (error_kind error))) result }
+    ensures { ComesTo error NoMemory NoOutput result }
 {
-    fate_of(error, TecolFate::NoOutput(reason_of(error)))
+    unless_memory(
+        error,
+        TecolFate::NoMemory,
+        TecolFate::NoOutput(reason_of(error)),
+    )
 }
 
 /// The status of a run whose output is written: this one, or 1 if text is lost with what could not be kept.

@@ -11,5 +11,4 @@ mod telling;
 
 pub use line::{TecolLine, TecolMode};
 pub use made::{Made, make};
-pub use parsing::{line_of, not_text};
-pub use running::{keep, program};
+pub use running::program;

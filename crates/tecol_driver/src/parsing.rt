@@ -1,15 +1,14 @@
 //! The program's command line.
 ghost use Rattle.clap.specs.Words.{first_of, found_of, rows_of};
-ghost use Rattle.std.specs.Prelude.{◌≡◌, IfErr, IfOk, codes, map, unwrap_or};
+ghost use Rattle.std.specs.Prelude.{◌≡◌, ⊤, IfErr, IfOk, codes, map, unwrap_or};
 ghost use Rattle.std.specs.String.{string_bytes};
 ghost use Rattle.tecol_driver.specs.CommandLine.{GivesLine, SayLine, SayNoLine, GivesNoLine, mode_by, tecol_rules};
 ghost use Rattle.teco_cli.specs.OptionTable.{rule_by};
-ghost use Rattle.teco_cli.specs.Refusals.{IsFaulty};
 
 use crate::line::{TecolLine, TecolMode};
 use clap::ArgMatches;
 use std::alloc::Global;
-use teco_cli::{LineFault, OptionRow, Program, Refusal, Takes, faulty, flag_at, parsed};
+use teco_cli::{CommandLine, LineFault, OptionRow, Program, Takes, faulty, flag_at, parsed};
 use teco_core::NoMemory;
 
 /// What the help says after the options.
@@ -128,7 +127,7 @@ fn line_in<'a>(alloc: Global, matches: &ArgMatches<'a>) -> Result<TecolLine, Lin
 }
 
 /// What the words say, the program's name first: `tecol [OPTIONS] [FILE]`.
-pub fn line_of(alloc: Global, words: &[String]) -> Result<TecolLine, LineFault>
+fn line_of(alloc: Global, words: &[String]) -> Result<TecolLine, LineFault>
     ensures line { IfOk result (SayLine (map string_bytes words.now)) }
     ensures refused { IfErr result (SayNoLine (map string_bytes words.now)) }
 {
@@ -138,9 +137,20 @@ pub fn line_of(alloc: Global, words: &[String]) -> Result<TecolLine, LineFault>
     }
 }
 
-/// The refusal of a line with an argument that is not UTF-8.
-pub fn not_text(alloc: Global) -> Result<Refusal, NoMemory>
-    ensures { IfOk result (IsFaulty (codes "an argument is not UTF-8 text") (codes "tecol [OPTIONS] [FILE]")) }
-{
-    faulty(alloc, "an argument is not UTF-8 text", USAGE)
+impl CommandLine for TecolLine {
+    ghost usage = { codes "tecol [OPTIONS] [FILE]" };
+
+    ghost says = { SayLine };
+
+    ghost lacks = { SayNoLine };
+
+    ghost fits = { λ _. ⊤ };
+
+    fn usage() -> &'static str {
+        USAGE
+    }
+
+    fn of_words(alloc: Global, words: &[String]) -> Result<TecolLine, LineFault> {
+        line_of(alloc, words)
+    }
 }

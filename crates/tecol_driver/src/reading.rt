@@ -12,7 +12,7 @@ use teco_io::{Source, read_input};
 
 /// Reads a file whole.
 pub fn input_of_file<D: Disk>(alloc: Global, name: &str, disk: &mut D) -> Result<Vec<u8>, TecolFate>
-    ensures input { IfOk result (λ input. IsInput (D.files disk.old) name.now input.items) }
+    ensures input { IfOk result (λ input. IsInput (D.seen disk.old).files name.now input.items) }
     ensures fault { let seen = disk_seen D.Disk D.Input.Source in
         IfErr result (LacksInput (seen disk.old) (seen disk.new) name.now) }
     ensures keeps { let seen = disk_seen D.Disk D.Input.Source in

@@ -1,7 +1,6 @@
 //! What the program does, on any disk and terminal.
 ghost use Rattle.std.specs.Prelude.{◌≡◌, IfErr, IfOk, codes, false};
 ghost use Rattle.std.specs.Process.{exit_status};
-ghost use Rattle.tecol_driver.specs.CommandLine.{SayNoLineIn, SayLineIn};
 ghost use Rattle.tecol_driver.specs.Ending.{said};
 ghost use Rattle.tecol_driver.specs.Keeping.{Concludes, Keeps, MakesAndPuts, PutsOut, ReadsInput, RunsOver, fate_put, output_of, view_of};
 ghost use Rattle.tecol_driver.specs.Made.{IsMade};
@@ -13,14 +12,13 @@ ghost use Rattle.teco_fs.specs.Seen.{KeepsDisk, host, disk_seen};
 use crate::fate::{TecolFate, no_output, status};
 use crate::line::TecolLine;
 use crate::made::{Made, make};
-use crate::parsing::line_of;
 use crate::reading::{input_of_file, input_of_stream};
 use crate::telling::{spot_in, text_of};
 use std::alloc::Global;
 use std::process::ExitCode;
-use teco_cli::{LineFault, is_standard_input, is_standard_output};
+use teco_cli::{LineFault, is_standard_input, is_standard_output, line_in};
 use teco_core::NoMemory;
-use teco_fs::{Disk, Reason, Unkept, Written, refuse, write_output};
+use teco_fs::{Disk, Reason, Unkept, Written, refuse, tell_no_memory, write_output};
 use teco_io::{Source, Terminal, TerminalFault};
 
 /// What is told where memory is refused to the program.
@@ -128,14 +126,6 @@ fn run_over<S: Source, T: Terminal, D: Disk>(
     }
 }
 
-fn no_memory<E: Terminal>(errors: &mut E) -> u8
-    ensures status { result ≡ 1 }
-    ensures told { Tells (E.screen errors.old) (E.screen errors.new) (said (codes "no memory")) }
-{
-    let _ = errors.put(NO_MEMORY);
-    1
-}
-
 /// Tells how a run over the line ends, and gives the status.
 fn conclude<E: Terminal>(alloc: Global, line: &TecolLine, fate: TecolFate, errors: &mut E) -> u8
     ensures { Concludes line.now fate (E.screen errors.old) (E.screen errors.new) result }
@@ -145,12 +135,12 @@ fn conclude<E: Terminal>(alloc: Global, line: &TecolLine, fate: TecolFate, error
             let _ = errors.put(text.as_bytes());
             status(fate)
         }
-        Err(NoMemory) => no_memory(errors),
+        Err(NoMemory) => tell_no_memory(NO_MEMORY, errors),
     }
 }
 
 /// Does what the line says, tells how that ends, and gives the status. The number is for the name of a draft.
-pub fn keep<S: Source, T: Terminal, E: Terminal, D: Disk>(
+fn keep<S: Source, T: Terminal, E: Terminal, D: Disk>(
     alloc: Global,
     line: &TecolLine,
     number: u32,
@@ -168,16 +158,6 @@ pub fn keep<S: Source, T: Terminal, E: Terminal, D: Disk>(
     conclude(alloc, line, fate, errors)
 }
 
-fn line_by(alloc: Global, words: Result<Vec<String>, LineFault>) -> Result<TecolLine, LineFault>
-    ensures line { IfOk result (SayLineIn words) }
-    ensures fault { IfErr result (SayNoLineIn words) }
-{
-    match words {
-        Ok(words) => line_of(alloc, words.as_slice()),
-        Err(fault) => Err(fault),
-    }
-}
-
 /// Does what these words say, and gives the status. The number is for the name of a draft.
 pub fn program<S: Source, T: Terminal, E: Terminal, D: Disk>(
     alloc: Global,
@@ -193,7 +173,7 @@ pub fn program<S: Source, T: Terminal, E: Terminal, D: Disk>(
         KeepsBy view E.screen words (host disk.old stream.old term.old) (host disk.new stream.new term.new)
         errors.old errors.new (exit_status result) }
 {
-    match line_by(alloc, words) {
+    match line_in::<TecolLine>(alloc, words) {
         Ok(line) => ExitCode::from(keep(alloc, &line, number, stream, term, errors, disk)),
         Err(fault) => ExitCode::from(refuse(&fault, NO_MEMORY, term, errors)),
     }

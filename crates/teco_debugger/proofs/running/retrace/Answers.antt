@@ -5,7 +5,7 @@ pub returns-clause-serves : goal.returns-clause-serves
 returns-clause-serves g c = record {
   first = c.new-debugger.result;
   last = c.serve.new.debugger;
-  begins = begins_over (g.D.Disk.files c.args.disk.now) (g.D.Disk.files c.text_of.new.disk) c.args.line.now c.new-debugger.result c.in_ok-new.field-0 c.in_ok-text.text.items c.in_ok-input.input.items
+  begins = begins_over (g.D.Disk.seen c.args.disk.now).files (g.D.Disk.seen c.text_of.new.disk).files c.args.line.now c.new-debugger.result c.in_ok-new.field-0 c.in_ok-text.text.items c.in_ok-input.input.items
       c.text_of.ensures.keeps.files c.in_ok-text.ensures.text c.in_ok-input.ensures.input c.in_ok-new.ensures.text c.in_ok-new.ensures.input c.in_ok-new.ensures.steps
       c.new-debugger.ensures.walk c.new-debugger.ensures.limit c.new-debugger.ensures.moves c.new-debugger.ensures.stop;
   serves = c.serve.ensures;

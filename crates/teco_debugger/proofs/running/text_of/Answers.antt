@@ -6,4 +6,4 @@ use Rattle.teco_debugger.proofs.running.text_of.Goals as goal
 pub returns-in-Err-clause-lacks : goal.returns-in-Err-clause-lacks
 returns-in-Err-clause-lacks g c =
     let seen = disk_seen g.D.Disk g.D.Input.Source in
-    subst (λ (n : List ℕ). IsNotRead (g.D.Disk.files c.args.disk.now) (seen c.read_file.new.disk) n c.in-Err.fault) c.as_str.ensures.value c.in-Err.ensures.fault
+    subst (λ (n : List ℕ). IsNotRead (g.D.Disk.seen c.args.disk.now).files (seen c.read_file.new.disk) n c.in-Err.fault) c.as_str.ensures.value c.in-Err.ensures.fault

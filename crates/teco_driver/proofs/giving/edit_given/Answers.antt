@@ -17,9 +17,9 @@ returns-in-Ok g c =
     let mid = seen c.open.new.self in
     let new = seen c.edit_by.new.host.disk in
     let kept : KeepsDisk old mid = record {
-      files = c.open.ensures.files;
-      streams = c.open.ensures.streams;
-      moments = c.open.ensures.moments;
+      files = c.open.ensures.still.files;
+      streams = c.open.ensures.still.streams;
+      moments = c.open.ensures.still.moments;
     } in
     let name = c.args.name.now in
     rw c.in-File.is (record {

@@ -20,3 +20,6 @@ returns-in-Ok g c = record {
   silent = λ line is off.
       c.run_over.ensures.silent (same_explain c.args.words c.in-Ok.line line c.in-Ok.ensures.line is off);
 }
+
+pub run_over-requires : goal.run_over-requires
+run_over-requires g c = record { depth = c.in-Ok.ensures.fits.depth; fits = c.in-Ok.ensures.fits.fits }

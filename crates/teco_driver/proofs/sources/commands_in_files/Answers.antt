@@ -24,7 +24,7 @@ returns-in_err-keep-clause-keeps g c = keeps_after c.loop-at.invariant.1 c.bytes
 pub returns-in_err-strings-clause-fault : goal.returns-in_err-strings-clause-fault
 returns-in_err-strings-clause-fault g c =
     let source = g.S.Source in
-    let files = g.D.Disk.files c.args.disk.now in
+    let files = (g.D.Disk.seen c.args.disk.now).files in
     let item = c.index-names-at.result in
     let h = c.loop-at.invariant in
     let text = c.in_ok-source.source.items in
@@ -41,7 +41,7 @@ returns-in_err-strings-clause-fault g c =
 pub loop-at-preserved : goal.loop-at-preserved
 loop-at-preserved g c =
     let source = g.S.Source in
-    let files = g.D.Disk.files c.args.disk.now in
+    let files = (g.D.Disk.seen c.args.disk.now).files in
     let names = c.args.names.now in
     let at = c.loop-at.at in
     let item = c.index-names-at.result in
@@ -84,6 +84,6 @@ returns-clause-keeps g c = c.loop-at.invariant.1
 pub returns-clause-read : goal.returns-clause-read
 returns-clause-read g c =
     let source = g.S.Source in
-    let files = g.D.Disk.files c.args.disk.now in
+    let files = (g.D.Disk.seen c.args.disk.now).files in
     subst (λ ns. AreCommandsIn source files ns c.args.stream.now c.loop-at.stream c.loop-at.made.items)
     (take_all c.loop-at.at c.args.names.now c.loop-at-test.false) c.loop-at.invariant.0

@@ -10,11 +10,13 @@ returns-in-Err g c = record {
   kept = tt;
   err = leaves_draft c.in_ok-draft.ensures.ok c.in-Err.ensures.err c.remove.ensures.others;
   removed = removed_or c.remove.result c.in_ok-draft.ensures.ok c.in-Err.ensures.err c.remove.ensures.ok c.remove.ensures.err;
-  streams = c.remove.ensures.streams ∙ (c.fill.ensures.streams ∙ c.make.ensures.streams);
   moments = let made = others_created c.in_ok-draft.ensures.ok in
       passes_then (passes_then c.make.ensures.moments made c.fill.ensures.moments) (but_then made c.in-Err.ensures.err) c.remove.ensures.moments;
-  count = c.remove.ensures.count ∙ (c.in-Err.ensures.count ∙ ap (count_after true) c.in_ok-draft.ensures.count);
-  error = c.remove.ensures.errors _ c.in-Err.ensures.error;
+  still = record {
+    streams = c.remove.ensures.still.streams ∙ (c.fill.ensures.still.streams ∙ c.make.ensures.still.streams);
+    count = c.remove.ensures.still.count ∙ (c.in-Err.ensures.still.count ∙ ap (count_after true) c.in_ok-draft.ensures.still.count);
+    error = c.remove.ensures.still.errors _ c.in-Err.ensures.still.error;
+  };
 }
 
 pub returns : goal.returns
@@ -23,10 +25,12 @@ returns g c = record {
   kept = c.in_default.ensures.kept;
   err = tt;
   removed = tt;
-  streams = c.fill.ensures.streams ∙ c.make.ensures.streams;
   moments = passes_then c.make.ensures.moments (others_created c.in_ok-draft.ensures.ok) c.fill.ensures.moments;
-  count = c.in_default.ensures.count ∙ c.in_ok-draft.ensures.count;
-  error = tt;
+  still = record {
+    streams = c.fill.ensures.still.streams ∙ c.make.ensures.still.streams;
+    count = c.in_default.ensures.still.count ∙ c.in_ok-draft.ensures.still.count;
+    error = tt;
+  };
 }
 
 pub returns-in_err-draft : goal.returns-in_err-draft
@@ -37,8 +41,10 @@ returns-in_err-draft g c =
       kept = rw failed tt;
       err = on_err_by c.from_residual.result (leaves_same c.in_err-draft.ensures.err);
       removed = on_err_by c.from_residual.result (inl c.in_err-draft.ensures.err);
-      streams = c.make.ensures.streams;
       moments = c.make.ensures.moments;
-      count = rw failed c.in_err-draft.ensures.count;
-      error = rw failed c.in_err-draft.ensures.error;
+      still = record {
+        streams = c.make.ensures.still.streams;
+        count = rw failed c.in_err-draft.ensures.still.count;
+        error = rw failed c.in_err-draft.ensures.still.error;
+      };
     }

@@ -7,16 +7,18 @@ use Rattle.teco_fs.proofs.output.fill.Goals as goal
 
 pub returns : goal.returns
 returns g c =
-    let written = appends_still (c.sync.ensures.files ∙ c.make_like.ensures.files) (appends_if {A = ℕ} {E = ℕ} c.args.bytes.1.now (g.D.Disk.files c.write-2.new.self) (Ok 0) c.in_ok-write.ensures.ok c.in_ok-write-2.ensures.ok) in
+    let written = appends_still (c.sync.ensures.still.files ∙ c.make_like.ensures.still.files) (appends_if {A = ℕ} {E = ℕ} c.args.bytes.1.now ((g.D.Disk.seen c.write-2.new.self).files) (Ok 0) c.in_ok-write.ensures.ok c.in_ok-write-2.ensures.ok) in
     let passed = passes_then c.write.ensures.moments (others_appended c.in_ok-write.ensures.ok) c.write-2.ensures.moments in
     record {
       ok = on_ok_by c.sync.result written;
       kept = c.sync.ensures.kept;
       err = on_err_by c.sync.result (others_appended written);
-      streams = c.sync.ensures.streams ∙ (c.make_like.ensures.streams ∙ (c.write-2.ensures.streams ∙ c.write.ensures.streams));
-      moments = λ before told files left. passed before told files (c.make_like.ensures.moments files (c.sync.ensures.moments files left));
-      count = subst (λ (n : ℕ). Counts c.sync.result n (g.D.Disk.failures c.sync.new.self)) (c.make_like.ensures.count ∙ (c.in_ok-write-2.ensures.count ∙ c.in_ok-write.ensures.count)) c.sync.ensures.count;
-      error = c.sync.ensures.error;
+      moments = λ before told files left. passed before told files (c.make_like.ensures.still.moments files (c.sync.ensures.still.moments files left));
+      still = record {
+        streams = c.sync.ensures.still.streams ∙ (c.make_like.ensures.still.streams ∙ (c.write-2.ensures.still.streams ∙ c.write.ensures.still.streams));
+        count = subst (λ (n : ℕ). Counts c.sync.result n ((g.D.Disk.seen c.sync.new.self).failures)) (c.make_like.ensures.still.count ∙ (c.in_ok-write-2.ensures.still.count ∙ c.in_ok-write.ensures.still.count)) c.sync.ensures.still.count;
+        error = c.sync.ensures.still.error;
+      };
     }
 
 pub returns-in_err-write : goal.returns-in_err-write
@@ -26,10 +28,12 @@ returns-in_err-write g c =
       ok = rw failed tt;
       kept = rw failed tt;
       err = on_err_by c.from_residual.result c.in_err-write.ensures.err;
-      streams = c.write.ensures.streams;
       moments = c.write.ensures.moments;
-      count = rw failed c.in_err-write.ensures.count;
-      error = rw failed c.in_err-write.ensures.error;
+      still = record {
+        streams = c.write.ensures.still.streams;
+        count = rw failed c.in_err-write.ensures.still.count;
+        error = rw failed c.in_err-write.ensures.still.error;
+      };
     }
 
 pub returns-in_err-write-2 : goal.returns-in_err-write-2
@@ -39,8 +43,10 @@ returns-in_err-write-2 g c =
       ok = rw failed tt;
       kept = rw failed tt;
       err = on_err_by c.from_residual-in_err-write-2.result (but_then (others_appended c.in_ok-write.ensures.ok) c.in_err-write-2.ensures.err);
-      streams = c.write-2.ensures.streams ∙ c.write.ensures.streams;
       moments = passes_then c.write.ensures.moments (others_appended c.in_ok-write.ensures.ok) c.write-2.ensures.moments;
-      count = rw failed (c.in_err-write-2.ensures.count ∙ ap (count_after true) c.in_ok-write.ensures.count);
-      error = rw failed c.in_err-write-2.ensures.error;
+      still = record {
+        streams = c.write-2.ensures.still.streams ∙ c.write.ensures.still.streams;
+        count = rw failed (c.in_err-write-2.ensures.still.count ∙ ap (count_after true) c.in_ok-write.ensures.still.count);
+        error = rw failed c.in_err-write-2.ensures.still.error;
+      };
     }

@@ -1,7 +1,7 @@
-use Rattle.std.proofs.Common.{◌∙◌, ap, subst, true, ℕ}
+use Rattle.std.proofs.Common.{◌∙◌, subst, ℕ}
 use Rattle.teco_fs.proofs.Disks.{passes_making}
 use Rattle.teco_fs.specs.Disk.{Counts}
-use Rattle.teco_fs.proofs.Writings.{asked_whole, is_error, leaves_by, on_err_by, passes_whole, removed_by, replaces_by, unless_weaker, whole_by, whole_weaker}
+use Rattle.teco_fs.proofs.Writings.{asked_whole, is_error, leaves_by, passes_whole, removed_by, replaces_by, unless_weaker, whole_by, whole_weaker}
 use Rattle.teco_fs.proofs.output.replace.Goals as goal
 
 pub returns-in_err-create : goal.returns-in_err-create
@@ -14,10 +14,12 @@ returns-in_err-create g c =
       changed = rw failed tt;
       err = rw failed c.in_err-create.ensures.err;
       removed = rw failed c.in_err-create.ensures.removed;
-      streams = c.create.ensures.streams;
       moments = passes_making c.requires c.create.ensures.moments;
-      count = rw failed c.in_err-create.ensures.count;
-      error = rw failed c.in_err-create.ensures.error;
+      still = record {
+        streams = c.create.ensures.still.streams;
+        count = rw failed c.in_err-create.ensures.still.count;
+        error = rw failed c.in_err-create.ensures.still.error;
+      };
     }
 
 pub returns-in-Some : goal.returns-in-Some
@@ -28,10 +30,12 @@ returns-in-Some g c = record {
   changed = rw c.in-Some.is c.take_name_as_read.ensures.changed;
   err = unless_weaker c.take_name_as_read.result (leaves_by c.in_ok-create.ensures.ok) c.take_name_as_read.ensures.err;
   removed = unless_weaker c.take_name_as_read.result (removed_by c.in_ok-create.ensures.ok) c.take_name_as_read.ensures.removed;
-  streams = c.take_name_as_read.ensures.streams ∙ c.create.ensures.streams;
   moments = passes_whole c.requires c.create.ensures.moments c.in_ok-create.ensures.ok (c.take_name_as_read.ensures.moments c.in_ok-create.ensures.kept);
-  count = subst (λ (n : ℕ). Counts c.take_name_as_read.result n (g.D.Disk.failures c.take_name_as_read.new.disk)) c.in_ok-create.ensures.count c.take_name_as_read.ensures.count;
-  error = c.take_name_as_read.ensures.error;
+  still = record {
+    streams = c.take_name_as_read.ensures.still.streams ∙ c.create.ensures.still.streams;
+    count = subst (λ (n : ℕ). Counts c.take_name_as_read.result n ((g.D.Disk.seen c.take_name_as_read.new.disk).failures)) c.in_ok-create.ensures.still.count c.take_name_as_read.ensures.still.count;
+    error = c.take_name_as_read.ensures.still.error;
+  };
 }
 
 pub returns-in-None : goal.returns-in-None
@@ -42,8 +46,10 @@ returns-in-None g c = record {
   changed = rw c.in-None.is c.take_name.ensures.unchanged;
   err = unless_weaker c.take_name.result (leaves_by c.in_ok-create.ensures.ok) c.take_name.ensures.err;
   removed = unless_weaker c.take_name.result (removed_by c.in_ok-create.ensures.ok) c.take_name.ensures.removed;
-  streams = c.take_name.ensures.streams ∙ c.create.ensures.streams;
   moments = passes_whole c.requires c.create.ensures.moments c.in_ok-create.ensures.ok (c.take_name.ensures.moments c.in_ok-create.ensures.kept);
-  count = subst (λ (n : ℕ). Counts c.take_name.result n (g.D.Disk.failures c.take_name.new.disk)) c.in_ok-create.ensures.count c.take_name.ensures.count;
-  error = c.take_name.ensures.error;
+  still = record {
+    streams = c.take_name.ensures.still.streams ∙ c.create.ensures.still.streams;
+    count = subst (λ (n : ℕ). Counts c.take_name.result n ((g.D.Disk.seen c.take_name.new.disk).failures)) c.in_ok-create.ensures.still.count c.take_name.ensures.still.count;
+    error = c.take_name.ensures.still.error;
+  };
 }

@@ -45,11 +45,11 @@ returns-in_default g c =
         | in_default-via-in-Err+else-eq w ↦ rw w.done-is (adds_more c.drafts.draft_number named differ c.drafts.invariant.adds w.in-Err.ensures.err)
         | in_default-via-in-Ok-1 w ↦ rw w.done-is (unless_weaker c.replace.result (adds_more c.drafts.draft_number named differ c.drafts.invariant.adds) c.replace.ensures.err)
       ];
-      streams = c.replace.ensures.streams ∙ c.drafts.invariant.streams;
+      streams = c.replace.ensures.still.streams ∙ c.drafts.invariant.streams;
       moments = passes_more c.drafts.draft_number named differ c.drafts.invariant.adds c.drafts.invariant.moments c.replace.ensures.moments;
       error = elim c.in_default-1.branch [
-        | in_default-via-in-Err+else-eq w ↦ rw w.done-is (inl w.in-Err.ensures.error)
-        | in_default-via-in-Ok-1 w ↦ rw w.done-is (IfErr-weaker c.replace.result (g.D.Disk.gave c.replace.new.disk) _ (λ _ given. inl given) c.replace.ensures.error)
+        | in_default-via-in-Err+else-eq w ↦ rw w.done-is (inl w.in-Err.ensures.still.error)
+        | in_default-via-in-Ok-1 w ↦ rw w.done-is (IfErr-weaker c.replace.result ((g.D.Disk.seen c.replace.new.disk).gave) _ (λ _ given. inl given) c.replace.ensures.still.error)
       ];
     }
 
@@ -71,13 +71,13 @@ drafts-preserved g c =
     let differ : c.as_str.result.now ≢ c.args.file.now = λ e. c.in_ok-draft.ensures.another (sym c.as_str.ensures.value ∙ e) in
     record {
       adds = adds_more c.drafts.draft_number named differ c.drafts.invariant.adds c.in-Err.ensures.err;
-      streams = c.replace.ensures.streams ∙ c.drafts.invariant.streams;
+      streams = c.replace.ensures.still.streams ∙ c.drafts.invariant.streams;
       moments = passes_more c.drafts.draft_number named differ c.drafts.invariant.adds c.drafts.invariant.moments c.replace.ensures.moments;
     }
 
 pub drafts-init : goal.drafts-init
 drafts-init g c = record {
-  adds = adds_none c.args.file.now (g.D.Disk.files c.args.disk.now);
+  adds = adds_none c.args.file.now ((g.D.Disk.seen c.args.disk.now).files);
   streams = refl;
-  moments = passes_none (IsWriting c.args.file.now (both c.args.bytes)) (g.D.Disk.files c.args.disk.now) (g.D.Disk.left c.args.disk.now);
+  moments = passes_none (IsWriting c.args.file.now (both c.args.bytes)) ((g.D.Disk.seen c.args.disk.now).files) ((g.D.Disk.seen c.args.disk.now).left);
 }

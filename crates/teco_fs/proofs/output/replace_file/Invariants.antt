@@ -5,7 +5,7 @@ use Rattle.teco_fs.proofs.output.replace_file.Given as goal
 
 abbrev pub invariant-drafts : goal.invariant-drafts
 invariant-drafts g l = record {
-  adds : Changes (g.D.Disk.files l.initial.disk) (g.D.Disk.files l.disk) (AddsDrafts l.file);
-  streams : g.D.Disk.streams l.disk ≡ g.D.Disk.streams l.initial.disk;
-  moments : Passes (g.D.Disk.files l.initial.disk) (g.D.Disk.left l.initial.disk) (g.D.Disk.left l.disk) (IsWriting l.file (both l.bytes));
+  adds : Changes ((g.D.Disk.seen l.initial.disk).files) ((g.D.Disk.seen l.disk).files) (AddsDrafts l.file);
+  streams : (g.D.Disk.seen l.disk).streams ≡ (g.D.Disk.seen l.initial.disk).streams;
+  moments : Passes ((g.D.Disk.seen l.initial.disk).files) ((g.D.Disk.seen l.initial.disk).left) ((g.D.Disk.seen l.disk).left) (IsWriting l.file (both l.bytes));
 }

@@ -9,10 +9,12 @@ returns-in-Ok g c = record {
   unchanged = tt;
   err = tt;
   removed = tt;
-  streams = c.rename.ensures.streams;
   moments = λ kept. passes_taking (c.rename.ensures.moments kept);
-  count = c.in-Ok.ensures.count;
-  error = tt;
+  still = record {
+    streams = c.rename.ensures.still.streams;
+    count = c.in-Ok.ensures.still.count;
+    error = tt;
+  };
 }
 
 pub returns-in-Err : goal.returns-in-Err
@@ -22,8 +24,10 @@ returns-in-Err g c = record {
   unchanged = tt;
   err = same_but_then c.in-Err.ensures.err c.discard.ensures.others;
   removed = removes_then c.in-Err.ensures.err c.discard.ensures.removed;
-  streams = c.discard.ensures.streams ∙ c.rename.ensures.streams;
   moments = λ kept. passes_discarding (c.rename.ensures.moments kept) c.in-Err.ensures.err c.discard.ensures.moments;
-  count = c.discard.ensures.count ∙ c.in-Err.ensures.count;
-  error = c.discard.ensures.errors _ c.in-Err.ensures.error;
+  still = record {
+    streams = c.discard.ensures.still.streams ∙ c.rename.ensures.still.streams;
+    count = c.discard.ensures.still.count ∙ c.in-Err.ensures.still.count;
+    error = c.discard.ensures.still.errors _ c.in-Err.ensures.still.error;
+  };
 }

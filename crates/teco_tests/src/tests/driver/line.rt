@@ -169,7 +169,7 @@ const ROWS: &str = "
 /// Whether an argument that is not UTF-8 leads to the status of a refused line.
 fn is_refused_without_text(alloc: Global) -> bool {
     let error = io::Error::from(io::ErrorKind::InvalidData);
-    is_refused(&fault_of_words(error, not_text(alloc)), "3")
+    is_refused(&fault_of_words(error, not_text::<Line>(alloc)), "3")
 }
 
 /// Names, and whose each is: standard input's, standard output's, or both.

@@ -1,4 +1,9 @@
+use Rattle.std.proofs.Common.{◌∙◌, ap}
+use Rattle.tecol_driver.specs.declared.fate.TecolFate.TheVariants.{NoOutput}
 use Rattle.tecol_driver.proofs.fate.no_output.Goals as goal
 
 pub returns : goal.returns
-returns c = rw c.reason_of.ensures at c.fate_of.ensures
+returns c = record {
+  memory = c.unless_memory.ensures.memory;
+  other_is = λ other. c.unless_memory.ensures.other other ∙ ap NoOutput c.reason_of.ensures;
+}

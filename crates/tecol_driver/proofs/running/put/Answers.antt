@@ -17,9 +17,9 @@ returns-in-Ok-Whole g c =
     let ok = rw c.in-Ok-Whole.field-0-is at c.in-Ok-Whole.ensures in
     subst (λ (n : List ℕ). PutsOut (output_to (is_standard_output n) g.T.Terminal.screen n (seen old) (seen new) c.args.term.now c.args.term.now) c.args.bytes.now (Ok c.in-Ok-Whole.unkept)) c.as_str-name.ensures.value
     (writes_in g.T.Terminal.screen name c.args.bytes.now (seen old) (seen new) c.args.term.now (sym c.is_standard_output.ensures ∙ c.if-is_standard_output.false) c.in-Ok-Whole.unkept (record {
-      files = subst (λ (bytes : List ℕ). Changes (g.D.Disk.files old) (g.D.Disk.files new) (IsPut name bytes (g.D.Disk.streams old name) (g.D.Disk.streams new name))) whole ok.ok;
+      files = subst (λ (bytes : List ℕ). Changes (g.D.Disk.seen old).files (g.D.Disk.seen new).files (IsPut name bytes ((g.D.Disk.seen old).streams name) ((g.D.Disk.seen new).streams name))) whole ok.ok;
       streams = ok.streams;
-      moments = subst (λ (bytes : List ℕ). Passes (g.D.Disk.files old) (g.D.Disk.left old) (g.D.Disk.left new) (IsWriting name bytes)) whole ok.moments;
+      moments = subst (λ (bytes : List ℕ). Passes (g.D.Disk.seen old).files (g.D.Disk.seen old).left (g.D.Disk.seen new).left (IsWriting name bytes)) whole ok.moments;
     }) ok.unkept)
 
 pub returns-in-Err-write_output : goal.returns-in-Err-write_output
@@ -33,7 +33,7 @@ returns-in-Err-write_output g c =
     (fails_in g.T.Terminal.screen name c.args.bytes.now (seen old) (seen new) c.args.term.now (sym c.is_standard_output.ensures ∙ c.if-is_standard_output.false) fate (record {
       files = c.in-Err-write_output.ensures.err;
       streams = c.in-Err-write_output.ensures.streams;
-      moments = subst (λ (bytes : List ℕ). Passes (g.D.Disk.files old) (g.D.Disk.left old) (g.D.Disk.left new) (IsWriting name bytes)) (append-nil c.args.bytes.now) c.in-Err-write_output.ensures.moments;
+      moments = subst (λ (bytes : List ℕ). Passes (g.D.Disk.seen old).files (g.D.Disk.seen old).left (g.D.Disk.seen new).left (IsWriting name bytes)) (append-nil c.args.bytes.now) c.in-Err-write_output.ensures.moments;
       error = c.in-Err-write_output.error;
       given = c.in-Err-write_output.ensures.error;
       fate_is = c.no_output.ensures;

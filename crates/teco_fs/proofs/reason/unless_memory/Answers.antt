@@ -1,8 +1,8 @@
 use Rattle.std.proofs.Common.{refl, ◌∙◌}
-use Rattle.teco_driver.proofs.fates.fate_of.Goals as goal
+use Rattle.teco_fs.proofs.reason.unless_memory.Goals as goal
 
 pub returns-in_default : goal.returns-in_default
-returns-in_default c = record {
+returns-in_default g c = record {
   memory = λ out. absurd (c.in_default.not-OutOfMemory (c.kind.ensures ∙ out));
-  other_is = λ _. refl;
+  other = λ _. refl;
 }

@@ -1,0 +1,70 @@
+//! The words that a program was called with, and the line that they say.
+ghost use Rattle.clap.specs.Words.{Text};
+ghost use Rattle.std.specs.Prelude.{◌≡◌, ℕ, List, IfErr, IfOk, codes, map};
+ghost use Rattle.std.specs.String.{string_bytes};
+ghost use Rattle.teco_cli.specs.Refusals.{IsFaulty};
+ghost use Rattle.teco_cli.specs.Words.{AreNotGiven, IsFaultIn, IsLineIn};
+ghost use Rattle.teco_cli.specs.declared.fault.LineFault.{LineFault};
+
+use crate::fault::{LineFault, fault_of_words};
+use crate::refusal::{Refusal, faulty};
+use std::alloc::Global;
+use std::rt::Env;
+use teco_core::NoMemory;
+
+/// The line of a program, which its words say.
+pub trait CommandLine: Drop {
+    // the usage, which the help and each faulty line show
+    ghost usage: { List ℕ };
+
+    // these words say this line
+    ghost says: { List Text → Self → Type 0 };
+
+    // so these words say no line
+    ghost lacks: { List Text → LineFault → Type 0 };
+
+    // what holds of each line
+    ghost fits: { Self → Type 0 };
+
+    /// The usage, which the help and each faulty line show.
+    fn usage() -> &'static str
+        ensures { result.now ≡ usage };
+
+    /// What the words say, the program's name first.
+    fn of_words(alloc: Global, words: &[String]) -> Result<Self, LineFault>
+        ensures line { IfOk result (says (map string_bytes words.now)) }
+        ensures fits { IfOk result fits }
+        ensures fault { IfErr result (lacks (map string_bytes words.now)) };
+}
+
+/// The refusal of a line with an argument that is not UTF-8.
+pub fn not_text<L: CommandLine>(alloc: Global) -> Result<Refusal, NoMemory>
+    ensures { IfOk result (IsFaulty (codes "an argument is not UTF-8 text") L.usage) }
+{
+    faulty(alloc, "an argument is not UTF-8 text", L::usage())
+}
+
+/// The words that the program was called with.
+pub fn words_given<L: CommandLine, R: Env + AllocGlobal>(rt: &R) -> Result<Vec<String>, LineFault>
+    ensures { IfErr result (AreNotGiven L.usage) }
+{
+    match std::env::args(rt) {
+        Ok(words) => Ok(words.collect(rt.alloc())?),
+        Err(error) => Err(fault_of_words(error, not_text::<L>(rt.alloc()))),
+    }
+}
+
+/// The line that the words say, where they were given.
+pub fn line_in<L: CommandLine>(
+    alloc: Global,
+    words: Result<Vec<String>, LineFault>,
+) -> Result<L, LineFault>
+    ensures line { IfOk result (IsLineIn L.says words) }
+    ensures fits { IfOk result L.fits }
+    ensures fault { IfErr result (IsFaultIn L.lacks words) }
+{
+    match words {
+        Ok(words) => L::of_words(alloc, words.as_slice()),
+        Err(fault) => Err(fault),
+    }
+}
