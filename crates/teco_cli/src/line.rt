@@ -221,12 +221,12 @@ fn line_by<'a>(alloc: Global, command: Command<'a>, words: &'a [String]) -> Resu
 }
 
 /// What the words say, the program's name first: `teco [OPTIONS] INPUT...`.
-pub fn line_of(alloc: Global, words: &[String]) -> Result<Line, LineFault>
-    ensures line { IfOk result (IsLine (map string_bytes words.now)) }
+pub fn line_of(alloc: Global, words: Vec<String>) -> Result<Line, LineFault>
+    ensures line { IfOk result (IsLine (map string_bytes words.items)) }
     ensures range { IfOk result (λ line. (line.limit ≤ 1000000000000) × IfSome line.undo IsDepth) }
     ensures seconds { IfOk result (λ line. IfSome line.seconds IsTime) }
     ensures page_lines { IfOk result (λ line. IfSome line.page_lines IsPageLength) }
-    ensures refused { IfErr result (IsLineFault (map string_bytes words.now)) }
+    ensures refused { IfErr result (IsLineFault (map string_bytes words.items)) }
 {
     let made = joined(alloc, words)?;
     let command = command_of(alloc, program(), options())?;
@@ -248,7 +248,7 @@ impl CommandLine for Line {
         USAGE
     }
 
-    fn of_words(alloc: Global, words: &[String]) -> Result<Line, LineFault> {
+    fn of_words(alloc: Global, words: Vec<String>) -> Result<Line, LineFault> {
         line_of(alloc, words)
     }
 }

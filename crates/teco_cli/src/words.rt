@@ -31,10 +31,10 @@ pub trait CommandLine: Drop {
         ensures { result.now ≡ usage };
 
     /// What the words say, the program's name first.
-    fn of_words(alloc: Global, words: &[String]) -> Result<Self, LineFault>
-        ensures line { IfOk result (says (map string_bytes words.now)) }
+    fn of_words(alloc: Global, words: Vec<String>) -> Result<Self, LineFault>
+        ensures line { IfOk result (says (map string_bytes words.items)) }
         ensures fits { IfOk result fits }
-        ensures fault { IfErr result (lacks (map string_bytes words.now)) };
+        ensures fault { IfErr result (lacks (map string_bytes words.items)) };
 }
 
 /// The refusal of a line with an argument that is not UTF-8.
@@ -64,7 +64,7 @@ pub fn line_in<L: CommandLine>(
     ensures fault { IfErr result (IsFaultIn L.lacks words) }
 {
     match words {
-        Ok(words) => L::of_words(alloc, words.as_slice()),
+        Ok(words) => L::of_words(alloc, words),
         Err(fault) => Err(fault),
     }
 }

@@ -146,7 +146,7 @@ impl CommandLine for DebuggerLine {
         USAGE
     }
 
-    fn of_words(alloc: Global, words: &[String]) -> Result<DebuggerLine, LineFault> {
-        line_of(alloc, words)
+    fn of_words(alloc: Global, words: Vec<String>) -> Result<DebuggerLine, LineFault> {
+        line_of(alloc, words.as_slice())
     }
 }

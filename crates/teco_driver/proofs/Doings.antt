@@ -330,7 +330,7 @@ read_before false source first last old mid new name bytes same given = given
 -- An input was read, its commands were served, and the output was written.
 pub over_work : {I T : Type 0} (line : Line) (name : List ℕ) (input : InputSeen) (commands : CommandsSeen) (old mid new : DiskSeen I) (screen : T → Screen)
     (before between after : T) (fate : Fate) {bytes place : List ℕ} {first history : History} {end : Served}
-    → KeepsDisk old mid → input.is_input bytes → place ≡ output_of line name → first ≡ history_over line bytes
+    → KeepsDisk old mid → input.is_input bytes → place ≡ output_of line name → first ≡ history_over line commands.depth bytes
     → Serves (allowance (bounds_of line) commands.asked) line.prompt commands.gave commands.ended (Shows (screen before) (screen between)) first history end
     → FinishesIn (is_standard_output place) end (present history).output (replaces_input line) place mid new screen between after fate
     → Edits line name (run_seen input commands old new screen before after) fate

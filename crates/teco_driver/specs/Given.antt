@@ -1,7 +1,7 @@
 -- A run over one input of the line: by commands as they come, or by bytes that are had already.
 use Rattle.teco_io.specs.declared.source.Source.{Ghosts as SourceView}
-use Rattle.teco_io.specs.declared.word_source.WordSource.{WordSource}
-use Rattle.teco_io.specs.contracts.word_source.WordSourceSource.TheImpl as word
+use Rattle.teco_driver.specs.declared.word_source.WordSource.{WordSource}
+use Rattle.teco_driver.specs.contracts.word_source.WordSourceSource.TheImpl as word
 use Rattle.std.specs.Prelude.{◌≡◌, ◌≢◌, ◌⊎◌, ◌&&◌, not, ℕ, List, Some, Bool, true, false, ⊤}
 use Rattle.std.specs.String.{string_bytes}
 use Rattle.std.specs.declared.io.Error.{Error}
@@ -12,7 +12,7 @@ use Rattle.teco_cli.specs.StreamNames.{is_standard_input}
 use Rattle.teco_cli.specs.declared.line.Commands.{Commands}
 use Rattle.teco_cli.specs.declared.line.Commands.TheVariants.{StandardInput, Sources, Pages, Bytes}
 use Rattle.teco_cli.specs.declared.line.Line.{Line}
-use Rattle.teco_driver.specs.Run.{Edits, input_from, named_input, standard_input}
+use Rattle.teco_driver.specs.Run.{Edits, depth_of, input_from, named_input, standard_input}
 use Rattle.teco_fs.specs.Reasons.{ComesTo}
 use Rattle.teco_fs.specs.Seen.{DiskSeen, KeepsDisk, KeepsStream}
 use Rattle.teco_driver.specs.declared.giving.Feed.{Feed}
@@ -58,15 +58,15 @@ EditsInput view line input given old new fate = Edits line input
 abbrev pub IsIdle : {D I S A T : Type 0} → HostView D I S T → Host S A T D → Host S A T D → Type 0
 IsIdle view old new = (new.terminal ≡ old.terminal) × KeepsDisk (view.disk old.disk) (view.disk new.disk)
 
--- By commands in memory: nothing is done if memory is refused for them; else the run is over these bytes, of
--- which no read fails.
+-- By commands in memory: the run is over these bytes, of which no read fails.
 pub record EditsByBytes {D I S A T : Type 0} (view : HostView D I S T) (line : Line) (input bytes : List ℕ)
     (old new : Host S A T D) (fate : Fate) : Type 0 where
   pub kept : KeepsStream input old.commands new.commands
-  pub edits : ((fate ≡ NoMemory) × IsIdle view old new)
-      ⊎ ((first : WordSource) × (last : WordSource) × (word_seen.coming first ≡ Some bytes)
-      × EditsInput view line input (commands_seen word_seen first last view.asked) old new fate
-      × (fate ≢ Ended served.ReadFault))
+  pub first : WordSource
+  pub last : WordSource
+  pub coming : word_seen.coming first ≡ Some bytes
+  pub edits : EditsInput view line input (commands_seen word_seen first last view.asked (depth_of line bytes)) old new fate
+  pub reads : fate ≢ Ended served.ReadFault
 
 -- By the commands of a file: nothing is done if the disk refuses to open it, and the fate has the reason; else the run is over
 -- what it opened.
@@ -77,13 +77,13 @@ pub record EditsByFile {D I S A T : Type 0} (view : HostView D I S T) (line : Li
       × ComesTo error NoMemory NoCommands fate
       × IsIdle view old new)
       ⊎ ((first : I) × (last : I) × Opens (view.disk old.disk).files name ((view.disk old.disk).input.coming first)
-      × EditsInput view line input (commands_seen (view.disk old.disk).input first last view.asked) old new fate)
+      × EditsInput view line input (commands_seen (view.disk old.disk).input first last view.asked line.undo) old new fate)
 
 -- By the commands of standard input, which come as they are wanted.
 abbrev pub EditsByStream : {D I S A T : Type 0} → HostView D I S T → Line → List ℕ → Host S A T D → Host S A T D → Fate
     → Type 0
 EditsByStream view line input old new fate =
-    EditsInput view line input (commands_seen view.stream old.commands new.commands view.asked) old new fate
+    EditsInput view line input (commands_seen view.stream old.commands new.commands view.asked line.undo) old new fate
 
 -- A file of commands that has a name of standard input is that.
 abbrev pub EditsByNamed : {D I S A T : Type 0} → Bool → HostView D I S T → Line → List ℕ → List ℕ → Host S A T D

@@ -1,6 +1,6 @@
 -- A run over one input of the line: what it reads, serves and writes, and how it ends.
 use Rattle.teco_io.specs.declared.source.Source.{Ghosts as SourceView}
-use Rattle.std.specs.Prelude.{◌≡◌, ◌≢◌, ◌⊎◌, ◌||◌, ⊤, ℕ, List, [], codes, Option, Some, None, unwrap_or, Bool, IsTrue, true, false}
+use Rattle.std.specs.Prelude.{◌≡◌, ◌≢◌, ◌⊎◌, ◌||◌, ◌&&◌, not, ⊤, ℕ, List, [], codes, Option, Some, None, unwrap_or, Bool, IsTrue, true, false, if◌then◌else◌}
 use Rattle.std.specs.Str.{bytes_eq}
 use Rattle.std.specs.String.{string_bytes}
 use Rattle.teco_io.specs.Terminal.{IsFrontOf, Screen, Shows}
@@ -32,6 +32,7 @@ use Rattle.teco_io.specs.declared.input.InputFault.{InputFault}
 use Rattle.teco_cli.specs.declared.line.Commands.{Commands}
 use Rattle.teco_cli.specs.declared.line.Commands.TheVariants.{StandardInput, Sources, Pages, Bytes}
 use Rattle.teco_cli.specs.declared.line.Line.{Line}
+use Rattle.teco_scan.specs.Stream.{asks_history}
 use Rattle.teco_serve.specs.declared.served.Served.{Served}
 use Rattle.teco_serve.specs.declared.served.Served.TheVariants as served
 
@@ -77,20 +78,26 @@ abbrev pub replaces_input : Line → Bool
 replaces_input line = line.in_place
     || (elim line.output [ Some name ↦ bytes_eq (string_bytes name) (string_bytes line.input) | None ↦ false ])
 
--- how many strings are kept of commands that come from there, if the line says no number: none of those for every
--- page, which nothing could undo, and all of others
-abbrev pub depth_by : Commands → Option ℕ
-depth_by StandardInput = None
-depth_by (Sources names word) = None
-depth_by (Pages word) = Some 0
-depth_by (Bytes name) = None
+abbrev pub is_on_pages : Commands → Bool
+is_on_pages StandardInput = false
+is_on_pages (Sources names word) = false
+is_on_pages (Pages word) = true
+is_on_pages (Bytes name) = false
 
-abbrev pub depth_of : Line → Option ℕ
-depth_of line = elim line.undo [ Some depth ↦ Some depth | None ↦ depth_by line.commands ]
+-- Some string of these commands may be undone: a text of them asks for an undo, a redo or a rewind. If the line is to be explained, its
+-- strings are kept too, since they are told of. Strings for every page are never undone.
+abbrev pub wants_history : Line → List ℕ → Bool
+wants_history line commands = not (is_on_pages line.commands) && (line.explain || asks_history commands)
+
+-- how many strings are kept of commands that are had whole: as many as the line says; and if it says no number, none where nothing
+-- could undo them, and else all
+abbrev pub depth_of : Line → List ℕ → Option ℕ
+depth_of line commands =
+    elim line.undo [ Some depth ↦ Some depth | None ↦ (if wants_history line commands then None else Some 0) ]
 
 -- the history that a run over this input begins with: its pages end after as many lines too as the line says
-abbrev pub history_over : Line → List ℕ → History
-history_over line input = new_paged_history (unwrap_or line.page_lines 0) (depth_of line) input
+abbrev pub history_over : Line → Option ℕ → List ℕ → History
+history_over line depth input = new_paged_history (unwrap_or line.page_lines 0) depth input
 
 -- the steps of a string, and its seconds if they are given
 abbrev pub bounds_of : Line → Bounds
@@ -104,7 +111,7 @@ pub record ServesInput (line : Line) (is_input : List ℕ → Type 0) (commands 
   pub input_is : is_input input
   pub history : History
   pub serves : Serves (allowance (bounds_of line) commands.asked) line.prompt commands.gave commands.ended term.showed
-      (history_over line input) history served
+      (history_over line commands.depth input) history served
   pub output_is : output ≡ (present history).output
 
 -- What a run may have done. How it ends says which of these it did.

@@ -17,13 +17,16 @@ pub record CommandsSeen : Type 1 where
   pub ended : Type 0
   -- an alarm of so many seconds asked one of them to stop after so many steps
   pub asked : ℕ → ℕ → Type 0
+  -- so many of their strings are kept, or all
+  pub depth : Option ℕ
 
-abbrev pub commands_seen : {S : Type 0} → SourceView S → S → S → (ℕ → ℕ → Type 0) → CommandsSeen
-commands_seen source old new asked = record {
+abbrev pub commands_seen : {S : Type 0} → SourceView S → S → S → (ℕ → ℕ → Type 0) → Option ℕ → CommandsSeen
+commands_seen source old new asked depth = record {
   still = new ≡ old;
   gave = Gives source.coming source.bound source.failures old new;
   ended = HasEnded (source.coming new) (source.ended new);
   asked = asked;
+  depth = depth;
 }
 
 -- what is seen of where the input comes from

@@ -8,7 +8,7 @@ ghost use Rattle.teco_cli.specs.StreamNames.{is_standard_input, is_standard_outp
 ghost use Rattle.teco_serve.specs.Exchange.{HasRung};
 ghost use Rattle.teco_serve.specs.Ending.{output_of};
 ghost use Rattle.teco_session.specs.History.{present};
-ghost use Rattle.teco_driver.specs.Run.{EndsBy, FinishesIn, bounds_of, depth_of, doings_after, history_over, named_output, replaces_input, standard_output};
+ghost use Rattle.teco_driver.specs.Run.{EndsBy, FinishesIn, bounds_of, depth_of, doings_after, history_over, named_output, replaces_input, standard_output, wants_history};
 ghost use Rattle.teco_driver.specs.Given.{EditsByStream, EditsInput, host_view};
 ghost use Rattle.teco_fs.specs.Seen.{KeepsStream, disk_seen};
 ghost use Rattle.teco_driver.specs.Seen.{commands_seen};
@@ -24,20 +24,43 @@ use teco_cli::{Commands, Line, is_standard_output};
 use teco_core::NoMemory;
 use teco_fs::{Disk, Reason, Written, has_bytes, write_output};
 use teco_io::{Source, Terminal, TerminalFault};
+use teco_scan::asks_history;
 use teco_serve::{Alarm, Bounds, Fate, Listens, Served, Settings, output_name, serve};
 use teco_session::Session;
 use teco_store::Desk;
 
-/// How many strings the history keeps: as many as the line says, all if it says none, and none of the strings for every page.
-fn depth_of(line: &Line) -> Option<usize>
+/// Whether a string of these commands, which are had whole, may be undone, or is told of.
+fn wants_history(line: &Line, commands: &[u8]) -> bool
+    ensures { result ≡ wants_history line.now commands.now }
+{
+    match line.commands {
+        Commands::Pages(_) => false,
+        _ => line.explain || asks_history(commands),
+    }
+}
+
+/// How many strings the history keeps, or all: as many as the line says.
+pub fn depth_said(line: &Line) -> Option<usize>
     requires { IfSome line.now.undo IsDepth }
-    ensures depth { result ≡ depth_of line.now }
+    ensures depth { result ≡ line.now.undo }
     ensures most { ForSome result (λ depth. depth ≤ DEPTH_LIMIT) }
 {
-    match (line.undo, &line.commands) {
-        (Some(depth), _) => Some(depth as usize),
-        (None, Commands::Pages(_)) => Some(0),
-        (None, _) => None,
+    match line.undo {
+        Some(depth) => Some(depth as usize),
+        None => None,
+    }
+}
+
+/// How many strings it keeps of commands that are had whole: as many as the line says. If it says no number, none that nothing could undo.
+pub fn depth_of(line: &Line, commands: &[u8]) -> Option<usize>
+    requires { IfSome line.now.undo IsDepth }
+    ensures depth { result ≡ depth_of line.now commands.now }
+    ensures most { ForSome result (λ depth. depth ≤ DEPTH_LIMIT) }
+{
+    match depth_said(line) {
+        Some(depth) => Some(depth),
+        None if wants_history(line, commands) => None,
+        None => Some(0),
     }
 }
 
@@ -121,16 +144,22 @@ struct Work {
     to: String,
 }
 
-/// Makes a session over an input, with pages and a depth by the line, and the name of its output.
-fn work_over(alloc: Global, line: &Line, name: &str, input: Vec<u8>) -> Result<Work, NoMemory>
+/// Makes a session over an input, with pages by the line and so many strings kept, and the name of its output.
+fn work_over(
+    alloc: Global,
+    line: &Line,
+    name: &str,
+    depth: Option<usize>,
+    input: Vec<u8>,
+) -> Result<Work, NoMemory>
     requires small { vec_len input ≤ FILE_LIMIT }
-    requires depth { IfSome line.now.undo IsDepth }
+    requires depth { ForSome depth (λ most. most ≤ DEPTH_LIMIT) }
     ensures to { IfOk result (λ work. string_bytes work.to ≡ output_of line.now name.now) }
-    ensures history { IfOk result (λ work. history_of work.session ≡ history_over line.now input.items) }
+    ensures history { IfOk result (λ work. history_of work.session ≡ history_over line.now depth input.items) }
 {
     let to = output_name(alloc, line, name)?;
     let lines = line.page_lines.unwrap_or(0) as usize;
-    let session = Session::with_pages(input, lines, depth_of(line))?;
+    let session = Session::with_pages(input, lines, depth)?;
     Ok(Work { session, to })
 }
 
@@ -183,7 +212,7 @@ fn leave(line: &Line, session: Session) {
     }
 }
 
-/// Reads an input that is a file, and edits it by the commands of standard input.
+/// Reads an input that is a file, and edits it by the commands of standard input. The history keeps as many strings as the line says.
 pub fn edit_by_stream<S: Source, A: Alarm, T: Terminal, L: Listens, D: Disk>(
     alloc: Global,
     line: &Line,
@@ -200,7 +229,7 @@ pub fn edit_by_stream<S: Source, A: Alarm, T: Terminal, L: Listens, D: Disk>(
         Ok(input) => input,
         Err(fate) => return fate,
     };
-    let Ok(mut work) = work_over(alloc, line, name, input) else {
+    let Ok(mut work) = work_over(alloc, line, name, depth_said(line), input) else {
         return Fate::NoMemory;
     };
     let served = serve(
@@ -217,25 +246,27 @@ pub fn edit_by_stream<S: Source, A: Alarm, T: Terminal, L: Listens, D: Disk>(
     fate
 }
 
-/// Reads an input, standard input or a file, and edits it by these commands.
+/// Reads an input, standard input or a file, and edits it by these commands. The history keeps so many of their strings.
 pub fn edit_by<C: Source, S: Source, A: Alarm, T: Terminal, L: Listens, D: Disk>(
     alloc: Global,
     line: &Line,
     name: &str,
+    depth: Option<usize>,
     commands: &mut C,
     host: &mut Host<S, A, T, D>,
     listener: &mut L,
 ) -> Fate
-    requires depth { IfSome line.now.undo IsDepth }
+    requires depth { ForSome depth (λ most. most ≤ DEPTH_LIMIT) }
     ensures edits { let view = host_view (disk_seen D.Disk D.Input.Source) S.Source T.screen (HasRung A.answered) in
-        EditsInput view line.now name.now (commands_seen C.Source commands.old commands.new view.asked) host.old host.new result }
+        let given = commands_seen C.Source commands.old commands.new view.asked depth in
+        EditsInput view line.now name.now given host.old host.new result }
     ensures still { KeepsStream name.now host.old.commands host.new.commands }
 {
     let input = match input_at(alloc, line, name, &mut host.commands, &mut host.disk) {
         Ok(input) => input,
         Err(fate) => return fate,
     };
-    let Ok(mut work) = work_over(alloc, line, name, input) else {
+    let Ok(mut work) = work_over(alloc, line, name, depth, input) else {
         return Fate::NoMemory;
     };
     let served = serve(

@@ -6,17 +6,20 @@ ghost use Rattle.teco_cli.specs.Conflict.{has_conflict};
 ghost use Rattle.teco_serve.specs.Exchange.{HasRung};
 ghost use Rattle.teco_cli.specs.StreamNames.{is_standard_input};
 ghost use Rattle.teco_driver.specs.declared.giving.Feed.TheVariants.{Stream};
-ghost use Rattle.teco_driver.specs.Given.{EditsGiven, IsFeed, host_view, is_streamed};
+ghost use Rattle.teco_driver.specs.Given.{IsFeed, host_view, is_streamed};
+ghost use Rattle.teco_driver.specs.Runs.{LinkGiven};
 ghost use Rattle.teco_fs.specs.Seen.{disk_seen};
 
-use crate::editing::{edit_by, edit_by_stream};
+use crate::concluding::conclude;
+use crate::editing::{depth_of, depth_said, edit_by, edit_by_stream};
 use crate::fates::no_commands;
 use crate::host::Host;
+use crate::word_source::WordSource;
 use std::alloc::Global;
 use teco_cli::{Commands, Line, is_standard_input};
 use teco_fs::Disk;
-use teco_io::{Source, Terminal, WordSource};
-use teco_serve::{Alarm, Fate, Listens};
+use teco_io::{Source, Terminal};
+use teco_serve::{Alarm, Listens};
 
 /// Whether the commands of the line are served to one input as they come.
 pub fn is_streamed(line: &Line) -> bool
@@ -55,32 +58,43 @@ pub fn feed_of(line: &Line) -> Option<Feed<'_>>
     }
 }
 
-/// Edits this input of the line by the commands that come from there. Of bytes a copy is made, if there is memory for one.
-pub fn edit_given<S: Source, A: Alarm, T: Terminal, L: Listens, D: Disk>(
+/// Edits this input of the line by the commands that come from there, and tells how that ends. Gives the status.
+pub fn edit_given<S: Source, A: Alarm, T: Terminal, E: Terminal, L: Listens, D: Disk>(
     alloc: Global,
     line: &Line,
     name: &str,
     feed: Feed<'_>,
     host: &mut Host<S, A, T, D>,
+    errors: &mut E,
     listener: &mut L,
-) -> Fate
+) -> u8
     requires depth { IfSome line.now.undo IsDepth }
     requires apart { feed ≡ Stream → is_standard_input name.now ≡ false }
     ensures { let view = host_view (disk_seen D.Disk D.Input.Source) S.Source T.screen (HasRung A.answered) in
-        EditsGiven view line.now feed.entry name.now host.old host.new result }
+        LinkGiven view E.screen line.now feed.entry name.now (host.old, errors.old) (host.new, errors.new) result }
 {
-    match feed {
+    let fate = match feed {
         Feed::Stream => edit_by_stream(alloc, line, name, host, listener),
         Feed::File(file) => match host.disk.open(file) {
-            Ok(mut given) => edit_by(alloc, line, name, &mut given, host, listener),
+            Ok(mut given) => {
+                edit_by(
+                    alloc,
+                    line,
+                    name,
+                    depth_said(line),
+                    &mut given,
+                    host,
+                    listener,
+                )
+            }
             Err(error) => no_commands(error),
         },
         Feed::Bytes(bytes) => {
-            let Ok(bytes) = Vec::from_slice(alloc, bytes) else {
-                return Fate::NoMemory;
-            };
+            let depth = depth_of(line, bytes);
             let mut given = WordSource::new(bytes);
-            edit_by(alloc, line, name, &mut given, host, listener)
+            edit_by(alloc, line, name, depth, &mut given, host, listener)
         }
-    }
+    };
+    listener.ended(line, name, fate);
+    conclude(alloc, line, name, fate, errors)
 }

@@ -14,6 +14,7 @@ mod running;
 mod several;
 mod sources;
 mod verdict;
+mod word_source;
 
 pub use checked::checked_laws;
 pub(crate) use concluding::{NO_MEMORY, conclude, no_memory};
@@ -23,3 +24,4 @@ pub use running::program;
 pub(crate) use sources::{
     CommandsFault, ReadSource, ReadSources, commands_given, decline, source_name,
 };
+pub(crate) use word_source::WordSource;

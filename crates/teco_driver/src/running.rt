@@ -10,16 +10,17 @@ ghost use Rattle.teco_driver.specs.Runs.{Runs, RunsOrChecks};
 ghost use Rattle.teco_fs.specs.Seen.{disk_seen};
 
 use crate::checking::check_line;
-use crate::several::{edit_all, edit_told};
-use crate::{Host, NO_MEMORY, feed_of};
+use crate::several::edit_all;
+use crate::{Host, NO_MEMORY};
 use std::alloc::Global;
 use std::process::ExitCode;
 use teco_cli::{Line, LineFault, line_in};
 use teco_fs::{Disk, refuse};
 use teco_io::{Source, Terminal};
-use teco_serve::Alarm;
+use teco_serve::{Alarm, Explainer, Silent};
 
-/// Runs over a line, or checks it if it asks for that, and tells how that ends. Gives the status.
+/// Runs over a line, or checks it if it asks for that, and tells how that ends. What is done is explained in the notes if the line asks
+/// for that. Gives the status.
 fn run_over<S: Source, A: Alarm, T: Terminal, E: Terminal, N: Terminal, D: Disk>(
     alloc: Global,
     line: &Line,
@@ -36,11 +37,11 @@ fn run_over<S: Source, A: Alarm, T: Terminal, E: Terminal, N: Terminal, D: Disk>
     if line.check {
         return check_line(alloc, line, host, errors);
     }
-    if let Some(feed) = feed_of(line) {
-        let name = line.input.as_str();
-        return edit_told(alloc, line, name, feed, host, errors, notes);
+    if !line.explain {
+        return edit_all(alloc, line, host, errors, &mut Silent);
     }
-    edit_all(alloc, line, host, errors, notes)
+    let mut explainer = Explainer::new(alloc, line, notes);
+    edit_all(alloc, line, host, errors, &mut explainer)
 }
 
 /// Runs over the line of these words, and gives the status. The alarm of the host breaks off command strings of a line that gives them

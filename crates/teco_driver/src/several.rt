@@ -1,22 +1,20 @@
-//! Runs over each input, one after another, by commands that are had at once.
-ghost use Rattle.std.specs.Prelude.{◌≡◌, false, IfSome};
+//! Runs over the inputs of a line: by commands as they come, or one after another by commands that are had at once.
+ghost use Rattle.std.specs.Prelude.{◌≡◌, ◌⊎◌, false, IfSome};
 ghost use Rattle.teco_cli.specs.CommandLine.{IsDepth};
-ghost use Rattle.teco_cli.specs.Conflict.{are_awaited};
-ghost use Rattle.teco_cli.specs.StreamNames.{is_standard_input};
-ghost use Rattle.teco_driver.specs.declared.giving.Feed.TheVariants.{Stream};
+ghost use Rattle.teco_cli.specs.Conflict.{has_conflict};
 ghost use Rattle.teco_driver.specs.Lines.{worse};
 ghost use Rattle.teco_serve.specs.Exchange.{HasRung};
-ghost use Rattle.teco_driver.specs.Given.{host_view, is_streamed};
-ghost use Rattle.teco_driver.specs.Runs.{LinkGiven, RunsIfSpelt, RunsInOrder, RunsOverAll, inputs_of};
+ghost use Rattle.teco_driver.specs.Given.{host_view};
+ghost use Rattle.teco_driver.specs.Runs.{RunsInOrder, RunsOverAll, RunsOverOne, inputs_of};
 ghost use Rattle.teco_fs.specs.Seen.{disk_seen};
 
 use crate::looking::status_if_misspelt;
-use crate::{Feed, Host, ReadSources, commands_given, conclude, decline, edit_given};
+use crate::{Feed, Host, ReadSources, commands_given, decline, edit_given, feed_of};
 use std::alloc::Global;
 use teco_cli::Line;
 use teco_fs::Disk;
 use teco_io::{Source, Terminal};
-use teco_serve::{Alarm, Explainer, Silent};
+use teco_serve::{Alarm, Listens};
 
 /// The worse of two statuses: 1, if a file or memory failed; else 2, if there was no exit; else 0.
 fn worse(a: u8, b: u8) -> u8
@@ -31,104 +29,67 @@ fn worse(a: u8, b: u8) -> u8
     }
 }
 
-/// Runs over this input of the line by the commands that come from there, and tells how that ends. Where the line asks for it what is done
-/// is explained in notes. Gives the status.
-pub fn edit_told<S: Source, A: Alarm, T: Terminal, E: Terminal, N: Terminal, D: Disk>(
-    alloc: Global,
-    line: &Line,
-    name: &str,
-    feed: Feed<'_>,
-    host: &mut Host<S, A, T, D>,
-    errors: &mut E,
-    notes: &mut N,
-) -> u8
-    requires depth { IfSome line.now.undo IsDepth }
-    requires apart { feed ≡ Stream → is_standard_input name.now ≡ false }
-    ensures link { let view = host_view (disk_seen D.Disk D.Input.Source) S.Source T.screen (HasRung A.answered) in
-        LinkGiven view E.screen line.now feed.entry name.now (host.old, errors.old) (host.new, errors.new) result }
-    ensures silent { line.now.explain ≡ false → notes.new ≡ notes.old }
-{
-    if !line.explain {
-        let fate = edit_given(alloc, line, name, feed, host, &mut Silent);
-        return conclude(alloc, line, name, fate, errors);
-    }
-    let mut explainer = Explainer::new(alloc, line, notes);
-    let fate = edit_given(alloc, line, name, feed, host, &mut explainer);
-    explainer.ended(line, name, fate);
-    conclude(alloc, line, name, fate, errors)
-}
-
 /// Runs over each input of the line in order, by these bytes as commands. Gives the worst status.
-fn edit_each<S: Source, A: Alarm, T: Terminal, E: Terminal, N: Terminal, D: Disk>(
+fn edit_each<S: Source, A: Alarm, T: Terminal, E: Terminal, L: Listens, D: Disk>(
     alloc: Global,
     line: &Line,
     bytes: &[u8],
     host: &mut Host<S, A, T, D>,
     errors: &mut E,
-    notes: &mut N,
+    listener: &mut L,
 ) -> u8
     requires depth { IfSome line.now.undo IsDepth }
-    ensures runs { let view = host_view (disk_seen D.Disk D.Input.Source) S.Source T.screen (HasRung A.answered) in
+    ensures { let view = host_view (disk_seen D.Disk D.Input.Source) S.Source T.screen (HasRung A.answered) in
         RunsInOrder view E.screen line.now bytes.now (inputs_of line.now)
         (host.old, errors.old) (host.new, errors.new) result }
-    ensures silent { line.now.explain ≡ false → notes.new ≡ notes.old }
 {
+    let feed = Feed::Bytes(bytes);
     let name = line.input.as_str();
-    let first = edit_told(alloc, line, name, Feed::Bytes(bytes), host, errors, notes);
+    let first = edit_given(alloc, line, name, feed, host, errors, listener);
     let mut status = worse(0, first);
     for name in line.more.iter() {
         let name = name.as_str();
-        let next = edit_told(alloc, line, name, Feed::Bytes(bytes), host, errors, notes);
+        let next = edit_given(alloc, line, name, feed, host, errors, listener);
         status = worse(status, next);
     }
     status
 }
 
-/// Runs over each input of the line by these bytes as commands, unless they are misspelt.
-fn edit_looked_at<S: Source, A: Alarm, T: Terminal, E: Terminal, N: Terminal, D: Disk>(
+/// Runs over each input of the line: over one by commands as they come, or by commands that are had once, before, unless these are
+/// misspelt. Gives the worst status.
+pub fn edit_all<S: Source, A: Alarm, T: Terminal, E: Terminal, L: Listens, D: Disk>(
     alloc: Global,
     line: &Line,
-    parts: &ReadSources,
-    bytes: &[u8],
     host: &mut Host<S, A, T, D>,
     errors: &mut E,
-    notes: &mut N,
+    listener: &mut L,
 ) -> u8
     requires depth { IfSome line.now.undo IsDepth }
-    ensures runs { let view = host_view (disk_seen D.Disk D.Input.Source) S.Source T.screen (HasRung A.answered) in
-        RunsIfSpelt view E.screen line.now bytes.now (host.old, errors.old) (host.new, errors.new) result }
-    ensures silent { line.now.explain ≡ false → notes.new ≡ notes.old }
+    requires fits { has_conflict line.now ≡ false }
+    ensures { let view = host_view (disk_seen D.Disk D.Input.Source) S.Source T.screen (HasRung A.answered) in
+        RunsOverOne view E.screen line.now host.old host.new errors.old errors.new result
+        ⊎ RunsOverAll view E.screen line.now host.old host.new errors.old errors.new result }
 {
-    if let Some(status) = status_if_misspelt(alloc, &line.commands, parts, bytes, errors) {
-        return status;
+    if let Some(feed) = feed_of(line) {
+        let name = line.input.as_str();
+        return edit_given(alloc, line, name, feed, host, errors, listener);
     }
-    edit_each(alloc, line, bytes, host, errors, notes)
-}
-
-/// Runs over each input of the line by commands that are had once, before. Gives the worst status.
-pub fn edit_all<S: Source, A: Alarm, T: Terminal, E: Terminal, N: Terminal, D: Disk>(
-    alloc: Global,
-    line: &Line,
-    host: &mut Host<S, A, T, D>,
-    errors: &mut E,
-    notes: &mut N,
-) -> u8
-    requires whole { is_streamed line.now ≡ false }
-    requires depth { IfSome line.now.undo IsDepth }
-    requires given { are_awaited line.now.commands ≡ false }
-    ensures runs { let view = host_view (disk_seen D.Disk D.Input.Source) S.Source T.screen (HasRung A.answered) in
-        RunsOverAll view E.screen line.now host.old host.new errors.old errors.new result }
-    ensures silent { line.now.explain ≡ false → notes.new ≡ notes.old }
-{
+    let commands = &line.commands;
     let mut parts = ReadSources::kept(alloc);
-    match commands_given(
+    let given = commands_given(
         alloc,
-        &line.commands,
+        commands,
         &mut host.commands,
         &mut host.disk,
         &mut parts,
-    ) {
-        Ok(bytes) => edit_looked_at(alloc, line, &parts, bytes.as_slice(), host, errors, notes),
-        Err(fault) => decline(alloc, &line.commands, fault, errors),
+    );
+    let bytes = match given {
+        Ok(bytes) => bytes,
+        Err(fault) => return decline(alloc, commands, fault, errors),
+    };
+    let bytes = bytes.as_slice();
+    if let Some(status) = status_if_misspelt(alloc, commands, &parts, bytes, errors) {
+        return status;
     }
+    edit_each(alloc, line, bytes, host, errors, listener)
 }

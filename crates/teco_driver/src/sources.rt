@@ -1,5 +1,5 @@
 //! The commands of a line that are had at once: those of its sources, or the bytes of a file.
-ghost use Rattle.std.specs.Prelude.{◌≡◌, ◌++◌, ℕ, List, IfErr, IfOk, Ok, codes, false};
+ghost use Rattle.std.specs.Prelude.{◌≡◌, ◌++◌, ℕ, List, IfErr, IfOk, OnOk, Ok, codes, false};
 ghost use Rattle.std.specs.String.{string_bytes};
 ghost use Rattle.teco_cli.specs.CommandLine.{on_pages};
 ghost use Rattle.teco_cli.specs.Conflict.{are_awaited};
@@ -170,6 +170,18 @@ fn bytes_of<S: Source, D: Disk>(
     }
 }
 
+/// Puts commands after others. If there are none before them, they are taken as they are.
+fn append(made: &mut Vec<u8>, strings: Vec<u8>) -> Result<(), NoMemory>
+    ensures { OnOk result (made.new.items ≡ made.old.items ++ strings.items) }
+{
+    if made.is_empty() {
+        *made = strings;
+        return Ok(());
+    }
+    made.extend_from_slice(strings.as_slice())?;
+    Ok(())
+}
+
 /// The commands of the sources in these files, one after another.
 fn commands_in_files<S: Source, D: Disk>(
     alloc: Global,
@@ -189,7 +201,7 @@ fn commands_in_files<S: Source, D: Disk>(
     for (at, name) in names.iter().enumerate() {
         let source = bytes_of(alloc, name.as_str(), at, stream, disk)?;
         let strings = commands_in(alloc, source.as_slice(), at)?;
-        made.extend_from_slice(strings.as_slice())?;
+        append(&mut made, strings)?;
         parts.keep(at, source, made.len())?;
     }
     Ok(made)
@@ -208,7 +220,7 @@ fn append_word(
     ensures fault { IfErr result (IsFaultOf word.now at) }
 {
     let strings = commands_in(alloc, word.as_bytes(), at)?;
-    made.extend_from_slice(strings.as_slice())?;
+    append(made, strings)?;
     parts.keep_word(alloc, at, word, made.len())?;
     Ok(())
 }

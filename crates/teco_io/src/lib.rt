@@ -13,7 +13,6 @@ mod reader_source;
 mod sink;
 mod source;
 mod terminal;
-mod word_source;
 mod writer_terminal;
 
 pub use comparing::gives_just;
@@ -27,5 +26,4 @@ pub use reader_source::ReaderSource;
 pub use sink::Sink;
 pub use source::{Source, SourceFault};
 pub use terminal::{Terminal, TerminalFault};
-pub use word_source::WordSource;
 pub use writer_terminal::WriterTerminal;

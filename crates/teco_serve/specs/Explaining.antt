@@ -175,6 +175,10 @@ pub record Hearing : Type 0 where
 abbrev pub counted : KeptSession → Telling → Telling
 counted session t = record t { texts = next_number t; place = (state_of session.editor).place }
 
+-- no text of the next input is done yet
+abbrev pub anew : Telling → Telling
+anew t = record t { texts = 0; place = 0 }
+
 -- the lines of a listener that tells any
 abbrev pub lines_by : (Telling → List ℕ) → Option Telling → List ℕ
 lines_by lines None = []

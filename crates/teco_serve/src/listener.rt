@@ -1,7 +1,7 @@
 //! Who hears what is done for each text of the stream.
 ghost use Rattle.std.specs.Prelude.{◌≡◌, None};
 ghost use Rattle.teco_serve.specs.Ending.{output_of};
-ghost use Rattle.teco_serve.specs.Explaining.{Hearing, HasTold, TellsLines, beginning_of, counted, end_line, left_line, move_lines, run_lines, told};
+ghost use Rattle.teco_serve.specs.Explaining.{Hearing, HasTold, anew, beginning_of, counted, end_line, left_line, move_lines, run_lines, told};
 ghost use Rattle.teco_fs.specs.Refusing.{Tells};
 
 use crate::explaining::{
@@ -38,6 +38,11 @@ pub trait Listens {
     fn left(&mut self, bytes: &[u8], broken_off: bool)
         ensures told { HasTold (hearing self.old) (hearing self.new)
             (λ telling. left_line bytes.now broken_off) (λ telling. telling) };
+
+    /// The run over this input of the line ends so. The next one is over another input.
+    fn ended(&mut self, line: &Line, input: &str, fate: Fate)
+        ensures told { HasTold (hearing self.old) (hearing self.new)
+            (λ telling. end_line (output_of line.now input.now) fate) anew };
 }
 
 /// Tells nothing.
@@ -56,6 +61,8 @@ impl Listens for Silent {
     fn moved(&mut self, _code: Option<Code>, _session: &Session) {}
 
     fn left(&mut self, _bytes: &[u8], _broken_off: bool) {}
+
+    fn ended(&mut self, _line: &Line, _input: &str, _fate: Fate) {}
 }
 
 /// Tells each code that is shown in a line of notes, and where counts are wanted what was done for each text.
@@ -118,15 +125,6 @@ impl<'a, N: Terminal> Explainer<'a, N> {
         self.telling.texts = next_number(self.telling);
         self.telling.place = session.editor().place();
     }
-
-    /// The run over this input of the line ends so.
-    pub fn ended(&mut self, line: &Line, input: &str, fate: Fate)
-        ensures told { TellsLines (N.screen self.old.notes.now) (N.screen self.new.notes.now)
-            (end_line (output_of line.now input.now) fate) }
-        ensures same_reference { self.new.notes.ghost_name ≡ self.old.notes.ghost_name }
-    {
-        self.tell(line_of_end(self.alloc, line, input, fate));
-    }
 }
 
 impl<'a, N: Terminal> Listens for Explainer<'a, N> {
@@ -150,5 +148,11 @@ impl<'a, N: Terminal> Listens for Explainer<'a, N> {
 
     fn left(&mut self, bytes: &[u8], broken_off: bool) {
         self.tell(line_of_left(self.alloc, bytes, broken_off));
+    }
+
+    fn ended(&mut self, line: &Line, input: &str, fate: Fate) {
+        self.tell(line_of_end(self.alloc, line, input, fate));
+        self.telling.texts = 0;
+        self.telling.place = 0;
     }
 }

@@ -150,7 +150,7 @@ impl CommandLine for TecolLine {
         USAGE
     }
 
-    fn of_words(alloc: Global, words: &[String]) -> Result<TecolLine, LineFault> {
-        line_of(alloc, words)
+    fn of_words(alloc: Global, words: Vec<String>) -> Result<TecolLine, LineFault> {
+        line_of(alloc, words.as_slice())
     }
 }

@@ -3,7 +3,7 @@ ghost use Rattle.std.specs.List.{list_any};
 ghost use Rattle.std.specs.Prelude.{[], ◌∷◌, ◌++◌, ◌≡◌, ◌||◌, IfOk, Some, codes, map};
 ghost use Rattle.std.specs.Str.{bytes_eq};
 ghost use Rattle.std.specs.String.{string_bytes};
-ghost use Rattle.teco_cli.specs.Joining.{begins_with_hyphen as begins, joined as joined_words, joined_after, is_long as has_name, is_short as has_letter, is_joined as makes_one, wants_value, with_value as one_word};
+ghost use Rattle.teco_cli.specs.Joining.{begins_with_hyphen as begins, joined as joined_words, is_long as has_name, is_short as has_letter, is_joined as makes_one, wants_value, with_value as one_word};
 ghost use Rattle.teco_cli.specs.OptionRules.{option_rules};
 ghost use Rattle.teco_cli.specs.OptionTable.{rule_by};
 
@@ -97,44 +97,23 @@ fn with_value(alloc: Global, word: &str, value: &str) -> Result<String, NoMemory
     format!(in alloc; "{word}{between}{value}")
 }
 
-/// Puts the words after those that are there.
-fn append(alloc: Global, made: &mut Vec<String>, words: &[String]) -> Result<(), NoMemory>
-    ensures { IfOk result (λ _. map string_bytes made.new.items ≡ map string_bytes made.old.items ++ map string_bytes words.now) }
+/// The words as the parser reads them, the program's name first: each value in the word of its option if it begins with a hyphen. Any
+/// other word stays as it is, and is not copied.
+pub(crate) fn joined(alloc: Global, words: Vec<String>) -> Result<Vec<String>, NoMemory>
+    ensures { IfOk result (λ made. map string_bytes made.items ≡ joined_words (map string_bytes words.items)) }
 {
-    for word in words {
-        made.push(String::from_str(alloc, word.as_str())?)?;
-    }
-    Ok(())
-}
-
-/// Puts the words after the program's name, each value in the word of its option if it begins with a hyphen.
-fn append_joined(alloc: Global, made: &mut Vec<String>, words: &[String]) -> Result<(), NoMemory>
-    ensures { IfOk result (λ _. map string_bytes made.new.items ≡ map string_bytes made.old.items ++ joined_after (map string_bytes words.now)) }
-{
-    let mut rest = words;
-    while let [word, value, after @ ..] = rest {
-        if word.as_str() == "--" {
+    let mut made = words;
+    let mut at = 1;
+    'words: while at + 1 < made.len() {
+        if made[at].as_str() == "--" {
             break;
         }
-        if is_joined(word.as_str(), value.as_str()) {
-            made.push(with_value(alloc, word.as_str(), value.as_str())?)?;
-            rest = after;
-        } else {
-            made.push(String::from_str(alloc, word.as_str())?)?;
-            rest = &rest[1..];
+        if is_joined(made[at].as_str(), made[at + 1].as_str()) {
+            let one = with_value(alloc, made[at].as_str(), made[at + 1].as_str())?;
+            let _ = made.remove(at + 1);
+            made[at] = one;
         }
-    }
-    append(alloc, made, rest)
-}
-
-/// The words as the parser reads them, the program's name first.
-pub(crate) fn joined(alloc: Global, words: &[String]) -> Result<Vec<String>, NoMemory>
-    ensures { IfOk result (λ made. map string_bytes made.items ≡ joined_words (map string_bytes words.now)) }
-{
-    let mut made = Vec::new(alloc);
-    if let [name, after @ ..] = words {
-        made.push(String::from_str(alloc, name.as_str())?)?;
-        append_joined(alloc, &mut made, after)?;
+        at += 1;
     }
     Ok(made)
 }

@@ -175,7 +175,7 @@ fn a_stream_is_named() -> bool {
 
 /// teco_cli: the words of a line.
 fn a_line_is_read(alloc: Global) -> bool {
-    match line_of(alloc, words_of(alloc, "teco -i in").as_slice()) {
+    match line_of(alloc, words_of(alloc, "teco -i in")) {
         Ok(line) => line.in_place && is(&line.input, "in"),
         Err(_) => false,
     }

@@ -11,7 +11,7 @@ use Rattle.teco_cli.proofs.line.line_of.Goals as goal
 
 pub returns-clause-refused : goal.returns-clause-refused
 returns-clause-refused c =
-    let words = map (λ x. string_bytes x) c.args.words.now in
+    let words = map (λ x. string_bytes x) c.args.words.items in
     let same : map (λ x. string_bytes x) c.as_slice.result.now ≡ joined words = search rules in
     IfErr-weaker c.line_by.result _ _ (fault_at_all words) (subst (λ ws. IfErr c.line_by.result (IsFaultOnceMade ws)) same c.line_by.ensures.refused)
 

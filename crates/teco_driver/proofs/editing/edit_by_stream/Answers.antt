@@ -9,5 +9,5 @@ pub returns-in_default : goal.returns-in_default
 returns-in_default g c = rw c.requires.apart (idle_ends _ _ _ _ _ _ _ _ _ _ (λ term place quiet keeps. inl ((refl, quiet), keeps)) refl c.input_of.ensures.keeps)
 
 pub returns : goal.returns
-returns g c = rw c.requires.apart (over_work _ _ _ _ _ _ _ _ _ _ _ _ c.input_of.ensures.keeps c.in-Ok.ensures.input c.in-Ok-work_over.ensures.to c.in-Ok-work_over.ensures.history
+returns g c = rw c.requires.apart (over_work _ _ _ _ _ _ _ _ _ _ _ _ c.input_of.ensures.keeps c.in-Ok.ensures.input c.in-Ok-work_over.ensures.to (rw c.depth_said.ensures.depth at c.in-Ok-work_over.ensures.history)
     (rw (← c.finish-fate.ensures.still, c.settings_of.ensures.bounds, c.settings_of.ensures.prompt) at c.serve-served.ensures) c.finish-fate.ensures.ends)

@@ -1,46 +1,71 @@
-use Rattle.std.proofs.Common.{◌∙◌, ap, arith, inr, Some}
+use Rattle.std.proofs.Common.{◌≡◌, ℕ, List, arith, inl, inr, refl, sym, subst}
+use Rattle.teco_cli.specs.StreamNames.{is_standard_input}
+use Rattle.teco_cli.specs.declared.line.Line.{Line}
+use Rattle.teco_driver.specs.Given.{EditsByFile, EditsGiven, HostView, host_view}
 use Rattle.teco_driver.specs.Run.{standard_input}
 use Rattle.teco_driver.specs.Seen.{commands_seen}
+use Rattle.teco_driver.specs.declared.giving.Feed.{Feed}
+use Rattle.teco_driver.specs.declared.host.Host.{Host}
 use Rattle.teco_fs.specs.Seen.{KeepsDisk, disk_seen}
-use Rattle.teco_cli.specs.StreamNames.{is_standard_input}
 use Rattle.teco_serve.specs.Exchange.{HasRung}
+use Rattle.teco_serve.specs.declared.fate.Fate.{Fate}
 use Rattle.teco_driver.proofs.Doings.{edits_from, reads_all}
 use Rattle.teco_driver.proofs.giving.edit_given.Goals as goal
+use Rattle.teco_driver.proofs.giving.edit_given.Goals.{in-Stream, in-File+in-Ok, in-File+in-Err, in-Bytes}
 
-pub returns-in-Stream : goal.returns-in-Stream
-returns-in-Stream g c = rw c.in-Stream.is c.edit_by_stream.ensures
+-- a run by the same feed, with the same end
+the_same : {D I S A T : Type 0} (view : HostView D I S T) (line : Line) (name : List ℕ) (old : Host S A T D) {feed given : Feed} {new left : Host S A T D} {fate so : Fate}
+    → feed ≡ given → new ≡ left → fate ≡ so → EditsGiven view line given name old left so → EditsGiven view line feed name old new fate
+the_same {D} {I} {S} {A} {T} view line name old {feed} {given} {new} {left} {fate} {so} same_feed same_host same_fate run =
+    subst (λ (f : Feed). EditsGiven view line f name old new fate) (sym same_feed)
+    (subst (λ (h : Host S A T D). EditsGiven view line given name old h fate) (sym same_host)
+    (subst (λ (f : Fate). EditsGiven view line given name old left f) (sym same_fate) run))
 
-pub returns-in-Ok : goal.returns-in-Ok
-returns-in-Ok g c =
+pub returns : goal.returns
+returns g c =
     let seen = disk_seen g.D.Disk g.D.Input.Source in
-    let old = seen c.args.host.now.disk in
-    let mid = seen c.open.new.self in
-    let new = seen c.edit_by.new.host.disk in
-    let kept : KeepsDisk old mid = record {
-      files = c.open.ensures.still.files;
-      streams = c.open.ensures.still.streams;
-      moments = c.open.ensures.still.moments;
-    } in
+    let view = host_view (disk_seen g.D.Disk g.D.Input.Source) g.S.Source g.T.Terminal.screen (HasRung g.A.Stop.answered) in
+    let line = c.args.line.now in
     let name = c.args.name.now in
-    rw c.in-File.is (record {
-      kept = c.edit_by.ensures.still;
-      edits = inr (
-        c.in-Ok.given,
-        c.edit_by.new.commands,
-        c.in-Ok.ensures.input,
-        edits_from old mid new kept (standard_input g.S.Source c.args.host.now.commands c.edit_by.new.host.commands) name (is_standard_input name) c.args.line.now (commands_seen g.D.Input.Source c.in-Ok.given c.edit_by.new.commands (HasRung g.A.Stop.answered))
-            g.T.Terminal.screen c.args.host.now.terminal c.edit_by.new.host.terminal c.edit_by.result c.edit_by.ensures.edits,
-      );
-    })
-
-pub returns-in-Ok-from_slice : goal.returns-in-Ok-from_slice
-returns-in-Ok-from_slice g c = rw c.in-Bytes.is (record {
-  kept = c.edit_by-in-Bytes.ensures.still;
-  edits = inr (
-    c.new-given.result,
-    c.edit_by-in-Bytes.new.commands,
-    c.new-given.ensures.coming ∙ ap Some c.in-Ok-from_slice.ensures.items,
-    c.edit_by-in-Bytes.ensures.edits,
-    reads_all (λ bytes gave. omega (arith, gave.count)) c.edit_by-in-Bytes.ensures.edits,
-  );
-})
+    let host = c.args.host.now in
+    record {
+      fate = c.match-feed.fate;
+      run = elim c.match-feed.branch [
+        | in-Stream w ↦ the_same view line name host w.in-Stream.is w.host-is w.fate-is w.edit_by_stream-fate.ensures
+        | in-File+in-Ok w ↦
+            let kept : KeepsDisk (seen host.disk) (seen w.open.new.self) = record {
+              files = w.open.ensures.still.files;
+              streams = w.open.ensures.still.streams;
+              moments = w.open.ensures.still.moments;
+            } in
+            the_same view line name host w.in-File.is w.host-is w.fate-is (record {
+              kept = w.edit_by.ensures.still;
+              edits = inr (
+                w.in-Ok.given,
+                w.edit_by.new.commands,
+                w.in-Ok.ensures.input,
+                edits_from (seen host.disk) (seen w.open.new.self) (seen w.edit_by.new.host.disk) kept (standard_input g.S.Source host.commands w.edit_by.new.host.commands) name (is_standard_input name) line
+                    (commands_seen g.D.Input.Source w.in-Ok.given w.edit_by.new.commands (HasRung g.A.Stop.answered) line.undo) g.T.Terminal.screen host.terminal w.edit_by.new.host.terminal w.edit_by.result
+                    (rw w.depth_said.ensures.depth at w.edit_by.ensures.edits),
+              );
+            })
+        | in-File+in-Err w ↦ the_same view line name host w.in-File.is w.host-is w.fate-is (record {
+          kept = λ apart. refl;
+          edits = inl (
+            w.in-Err.error,
+            w.in-Err.ensures.error,
+            w.no_commands.ensures,
+            (refl, record { files = w.open.ensures.still.files; streams = w.open.ensures.still.streams; moments = w.open.ensures.still.moments }),
+          );
+        })
+        | in-Bytes w ↦ the_same view line name host w.in-Bytes.is w.host-is w.fate-is (record {
+          kept = w.edit_by-fate.ensures.still;
+          first = w.new-given.result;
+          last = w.edit_by-fate.new.commands;
+          coming = w.new-given.ensures.coming;
+          edits = rw w.depth_of-depth.ensures.depth at w.edit_by-fate.ensures.edits;
+          reads = reads_all (λ bytes gave. omega (arith, gave.count)) w.edit_by-fate.ensures.edits;
+        })
+      ];
+      end = c.conclude.ensures;
+    }

@@ -14,10 +14,10 @@ pub loop-name-init : goal.loop-name-init
 loop-name-init g c =
     let view = host_view (disk_seen g.D.Disk g.D.Input.Source) g.S.Source g.T.Terminal.screen (HasRung g.A.Stop.answered) in
     let old : Host g.row.S.Denot g.row.A.Denot g.row.T.Denot g.row.D.Denot × g.row.E.Denot = (c.args.host.now, c.args.errors.now) in
-    let new : Host g.row.S.Denot g.row.A.Denot g.row.T.Denot g.row.D.Denot × g.row.E.Denot = (c.edit_told-first.new.host, c.edit_told-first.new.errors) in
-    let status = c.edit_told-first.result in
-    let linked = subst (λ (name : List ℕ). LinkOver view g.E.Terminal.screen c.args.line.now c.args.bytes.now name old new status) c.as_str-name.ensures.value c.edit_told-first.ensures.link in
-    (status ∷ [], (new, status, [], refl, linked, (refl, refl)), c.worse-status.ensures, c.edit_told-first.ensures.silent)
+    let new : Host g.row.S.Denot g.row.A.Denot g.row.T.Denot g.row.D.Denot × g.row.E.Denot = (c.edit_given-first.new.host, c.edit_given-first.new.errors) in
+    let status = c.edit_given-first.result in
+    let linked = subst (λ (name : List ℕ). LinkOver view g.E.Terminal.screen c.args.line.now c.args.bytes.now name old new status) c.as_str-name.ensures.value c.edit_given-first.ensures in
+    (status ∷ [], (new, status, [], refl, linked, (refl, refl)), c.worse-status.ensures)
 
 pub loop-name-preserved : goal.loop-name-preserved
 loop-name-preserved g c =
@@ -30,8 +30,8 @@ loop-name-preserved g c =
     let item = c.name-item.result in
     let old : Host g.row.S.Denot g.row.A.Denot g.row.T.Denot g.row.D.Denot × g.row.E.Denot = (c.args.host.now, c.args.errors.now) in
     let mid : Host g.row.S.Denot g.row.A.Denot g.row.T.Denot g.row.D.Denot × g.row.E.Denot = (c.loop-name.host, c.loop-name.errors) in
-    let new : Host g.row.S.Denot g.row.A.Denot g.row.T.Denot g.row.D.Denot × g.row.E.Denot = (c.edit_told-next.new.host, c.edit_told-next.new.errors) in
-    let next = c.edit_told-next.result in
+    let new : Host g.row.S.Denot g.row.A.Denot g.row.T.Denot g.row.D.Denot × g.row.E.Denot = (c.edit_given-next.new.host, c.edit_given-next.new.errors) in
+    let next = c.edit_given-next.result in
     let input = string_bytes c.args.line.now.input in
     let name = string_bytes item in
     let taken : take (i + 1) items ≡ take i items ++ item ∷ [] =
@@ -39,16 +39,15 @@ loop-name-preserved g c =
     let front : take (i + 1) more ≡ take i more ++ item ∷ [] = subst (λ xs. take (i + 1) xs ≡ take i xs ++ item ∷ []) c.deref-name-items.ensures.value taken in
     let names : map string_bytes (take i more) ++ name ∷ [] ≡ map string_bytes (take (i + 1) more) =
     sym (map-append string_bytes (take i more) (item ∷ [])) ∙ ap (map string_bytes) (sym front) in
-    let linked = subst (λ (n : List ℕ). link n mid new next) c.as_str-name-in-loop-name.ensures.value c.edit_told-next.ensures.link in
+    let linked = subst (λ (n : List ℕ). link n mid new next) c.as_str-name-in-loop-name.ensures.value c.edit_given-next.ensures in
     let all = chain_more link (input ∷ map string_bytes (take i more)) name old mid new h.0 next h.1 linked in (
       h.0 ++ next ∷ [],
       subst (λ (ns : List (List ℕ)). Chain link (input ∷ ns) old new (h.0 ++ next ∷ [])) names all,
       c.worse-status-in-loop-name.ensures ∙ (ap (λ s. worse s next) h.2 ∙ sym (worst_more 0 h.0 next)),
-      λ off. c.edit_told-next.ensures.silent off ∙ h.3 off,
     )
 
-pub returns-clause-runs : goal.returns-clause-runs
-returns-clause-runs g c =
+pub returns : goal.returns
+returns g c =
     let view = host_view (disk_seen g.D.Disk g.D.Input.Source) g.S.Source g.T.Terminal.screen (HasRung g.A.Stop.answered) in
     let link = LinkOver view g.E.Terminal.screen c.args.line.now c.args.bytes.now in
     let h = c.loop-name.invariant in

@@ -1,4 +1,4 @@
-use Rattle.std.proofs.Common.{◌≡◌, ℕ, List, ◌∷◌, false, map, take}
+use Rattle.std.proofs.Common.{◌≡◌, ℕ, List, ◌∷◌, map, take}
 use Rattle.std.specs.String.{string_bytes}
 use Rattle.teco_driver.specs.Lines.{worst}
 use Rattle.teco_serve.specs.Exchange.{HasRung}
@@ -12,4 +12,4 @@ invariant-loop-name g l =
     let view = host_view (disk_seen g.D.Disk g.D.Input.Source) g.S.Source g.T.Terminal.screen (HasRung g.A.Stop.answered) in
     (statuses : List ℕ) × Chain (LinkOver view g.E.Terminal.screen l.line l.bytes) (string_bytes l.line.input ∷ map string_bytes (take l.name-index l.line.more.items))
     (l.fn.host, l.fn.errors) (l.host, l.errors) statuses
-    × (l.status ≡ worst 0 statuses) × (l.line.explain ≡ false → l.notes ≡ l.fn.notes)
+    × (l.status ≡ worst 0 statuses)

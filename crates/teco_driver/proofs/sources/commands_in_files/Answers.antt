@@ -15,8 +15,8 @@ returns-in_err-source-clause-keeps g c = keeps_after c.loop-at.invariant.1 c.byt
 pub returns-in_err-strings-clause-keeps : goal.returns-in_err-strings-clause-keeps
 returns-in_err-strings-clause-keeps g c = keeps_after c.loop-at.invariant.1 c.bytes_of.ensures.keeps
 
-pub returns-in_err-extend_from_slice-clause-keeps : goal.returns-in_err-extend_from_slice-clause-keeps
-returns-in_err-extend_from_slice-clause-keeps g c = keeps_after c.loop-at.invariant.1 c.bytes_of.ensures.keeps
+pub returns-in_err-append-clause-keeps : goal.returns-in_err-append-clause-keeps
+returns-in_err-append-clause-keeps g c = keeps_after c.loop-at.invariant.1 c.bytes_of.ensures.keeps
 
 pub returns-in_err-keep-clause-keeps : goal.returns-in_err-keep-clause-keeps
 returns-in_err-keep-clause-keeps g c = keeps_after c.loop-at.invariant.1 c.bytes_of.ensures.keeps
@@ -57,9 +57,8 @@ loop-at-preserved g c =
     let one = one_source_more source files (take at names) item old c.loop-at.stream new c.loop-at.made.items text strings h.0 whole read in
     let front : take (at + 1) names ≡ take at names ++ item ∷ [] =
     subst (λ (x : String Global). take (at + 1) names ≡ take at names ++ x ∷ []) (sym c.index-names-at.is) (take_more names at item c.loop-at-test.true) in
-    let items : c.extend_from_slice.new.self.items ≡ c.loop-at.made.items ++ strings =
-    subst (λ (t : List ℕ). c.extend_from_slice.new.self.items ≡ c.loop-at.made.items ++ t) c.as_slice-in-loop-at.ensures.value c.in_ok-extend_from_slice.ensures.items in (
-      subst (λ ns. AreCommandsIn source files ns old new c.extend_from_slice.new.self.items) (sym front) (subst (λ (m : List ℕ). AreCommandsIn source files (take at names ++ item ∷ []) old new m) (sym items) one),
+    let items : c.append.new.made.items ≡ c.loop-at.made.items ++ strings = c.in_ok-append.ensures in (
+      subst (λ ns. AreCommandsIn source files ns old new c.append.new.made.items) (sym front) (subst (λ (m : List ℕ). AreCommandsIn source files (take at names ++ item ∷ []) old new m) (sym items) one),
       keeps_after h.1 c.bytes_of.ensures.keeps,
     )
 

@@ -48,6 +48,11 @@ pub(super) const ROWS: &str = "
     - teco --page-lines 2 -p Z=J<FSx$y$;> in => unread => 4\r\n4\r\n2\r\na\ny\nb\nc\ny\n => => => => in == a\nx\nb\nc\nx\n
     - // Nothing is kept to be undone of strings for every page, unless the line says so.
     - teco --page-lines 2 -p T in => unread => a\nc\na\nb\nc\n => => => => in == a\nb\nc\n
+    - // Of commands that are had whole strings are kept if a text of them asks for an undo or a rewind. A brace in a text asks for nothing.
+    - teco -e Y$$Ia$$Ib$$2{$$}$$HT$$EX$$ in => unread => ahi\n => => => => in == hi\n => in == hi\n ++ in.out == ahi\n
+    - teco -e Y$$Ia$Ib$$1~$$EX$$ in two => unread => => => => => in == hi\n ++ two == two\n => in == hi\n ++ two == two\n ++ in.out == ahi\n ++ two.out == atwo\n
+    - teco -e Y$$I{$$I}$$HT$$EX$$ in => unread => {}hi\n => => => => in == hi\n => in == hi\n ++ in.out == {}hi\n
+    - teco -f all in => unread => hi\n => => => => all == YIa$${$$YHT$$EX$$ ++ in == hi\n => all == YIa$${$$YHT$$EX$$ ++ in == hi\n ++ in.out == hi\n
     - // Strings for every page make a filter: the outputs come on standard output, one after another, and no file is written.
     - teco -p IA$ in two => unread => Ahi\nAtwo\n => => => => in == hi\n ++ two == two\n ++ in.out == old\n
     - teco -p IA$ none in => unread => Ahi\n => teco: cannot read none: there is no such file or folder\n => => 1 => in == hi\n

@@ -71,7 +71,7 @@ enum Lines {
 impl Rule for Lines {
     fn holds(&self, alloc: Global, row: &str) -> bool {
         let cells = cells_of(row);
-        match line_of(alloc, words_of(alloc, cells[0]).as_slice()) {
+        match line_of(alloc, words_of(alloc, cells[0])) {
             Ok(line) => match self {
                 Lines::Say => says(alloc, &line, &cells),
                 Lines::End => ends_so(alloc, &line, &cells),
