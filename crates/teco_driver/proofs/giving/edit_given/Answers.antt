@@ -53,7 +53,7 @@ returns g c =
           kept = λ apart. refl;
           edits = inl (
             w.in-Err.error,
-            w.in-Err.ensures.error,
+            w.in-Err.ensures.still.error,
             w.no_commands.ensures,
             (refl, record { files = w.open.ensures.still.files; streams = w.open.ensures.still.streams; moments = w.open.ensures.still.moments }),
           );
