@@ -12,7 +12,7 @@ use Rattle.teco_step.specs.Stepping.{Steps, name_of, trail_after}
 use Rattle.teco_step.specs.Ending.{end_of, is_unfinished}
 use Rattle.teco_io.specs.Terminal.{Screen, Shows}
 use Rattle.teco_step.proofs.Ends.{MayEnd}
-use Rattle.teco_step.proofs.Shown.{Shows-nil}
+use Rattle.teco_io.proofs.Shown.{Shows-nil}
 
 -- an end that a token may have is told by what it leads to
 end_is : (s : State) (inside : Bool) (i : Item) (n : Next) (e : End) → end_of s (tag_of e) n ≡ e → MayEnd inside i e → end_of s (name_of i) n ≡ e

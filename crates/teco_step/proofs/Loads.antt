@@ -25,7 +25,7 @@ use Rattle.teco_step.specs.Registers as registers
 use Rattle.teco_step.specs.declared.next.Setting.{Setting}
 use Rattle.teco_step.specs.Step.{Attempt, Made, Action, goes, steers, goes_on, done_by, on, leave, settled, ends, as_byte, place_or, takes_none, takes_one, takes_one_or, takes_reach}
 use Rattle.teco_step.specs.Typing.{around, ended, part}
-use Rattle.teco_step.specs.Values.{built, value_of}
+use Rattle.teco_step.specs.Values.{built, quantity_value}
 use Rattle.teco_step.proofs.Moving.{exit_moves, nothing_moves, turn_moves}
 use Rattle.teco_step.proofs.Occurring.{Backward, Forward, Long, Spelled}
 use Rattle.teco_step.proofs.Seeking.{seeks, seeks_and_replaces, seeks_reading, seeks_turning}
@@ -89,13 +89,13 @@ command_works command.WritePage w = write_page_works
 command_works command.CaseMode w = case_works
 
 bare_works : (b : Bare) (w : Setting) → ActionWorks (bare_effect b w)
-bare_works (bare.Quantity q) w = λ s a. gives_works s a (value_of q s)
+bare_works (bare.Quantity q) w = λ s a. gives_works s a (quantity_value q s)
 bare_works (bare.Arithmetic b) w = λ s a. made_then s (built b (length s.text) a) _ (λ built_up e. inl (refl, refl))
 bare_works (bare.Command c) w = command_works c w
 bare_works (bare.Level l) w = level_works l
 
 register_works : (c : RegisterCommand) (q : ℕ) (w : Setting) → ActionWorks (register_effect c q w)
-register_works register_command.Number q w = λ s a. gives_works s a (registers.value_of w.modifiers q s)
+register_works register_command.Number q w = λ s a. gives_works s a (registers.number_or_length w.modifiers q s)
 register_works register_command.Increment q w = increment_works q
 register_works register_command.Set q w = set_number_works q
 register_works register_command.Extract q w = extract_works q

@@ -11,7 +11,7 @@ use Rattle.teco_search.specs.Occurrence.{Sought, Span, backward, forward, looked
 use Rattle.teco_search.specs.Reading.{read}
 use Rattle.teco_search.specs.Spelling.{Spells, nothing, next}
 use Rattle.teco_store.specs.State.{State}
-use Rattle.teco_step.specs.Searching.{found, meant, sought, takes_count}
+use Rattle.teco_step.specs.Searching.{found, sought, takes_count, text_or_last}
 
 -- One of a list of occurrences is a match.
 nth_forward : (q : Sought) (text : List ℕ) (from : ℕ) (ms : List Span) (n : ℕ) (m : Span) → AreForward q text from ms → slice_get ms n ≡ Some m → MatchesTo q text m.0 m.1
@@ -85,7 +85,7 @@ module _ (long : Long) (is_forward : Forward) (is_backward : Backward) (spelled 
       some_looked_for s text (Err c) q is has e = absurd cc
 
   some_sought : (text : List ℕ) (s : State) (q : Sought) → sought text s ≡ Ok q → 0 < length q.elements
-  some_sought text s q e = some_sought_by s (meant text s) (length (meant text s) == 0) q refl e
+  some_sought text s q e = some_sought_by s (text_or_last text s) (length (text_or_last text s) == 0) q refl e
 
   found_by : (s : State) (x : Result ℤ Code) (y : Result Sought Code) (m : Span) → ((q : Sought) → y ≡ Ok q → 0 < length q.elements)
       → (x >>= (λ n. y >>= (λ q. Ok (occurrence q s.text s.pointer n)))) ≡ Ok (Some m) → Lies s m

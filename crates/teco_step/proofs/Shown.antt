@@ -1,7 +1,6 @@
--- One put after another, and what a command that types did by its put.
-use Rattle.std.proofs.Common.{ℕ, ◌≡◌, ◌≢◌, subst, inr, OnOk, OnErr, List, [], ◌∷◌, ◌++◌, Bool, true, false, Result, Ok, Err, IsErr, refl, sym, ap, append_assoc, ◌∙◌}
+-- What a command that types did by its put.
+use Rattle.std.proofs.Common.{ℕ, ◌≡◌, ◌≢◌, subst, inr, OnOk, OnErr, List, [], ◌++◌, true, Result, Ok, Err, IsErr, refl, sym, ap, append_assoc, ◌∙◌}
 use Rattle.std.proofs.lemmas.Bool.{false≢true}
-use Rattle.std.proofs.KnownBytes.{Appends-trans, Appends-nil}
 use Rattle.teco_core.specs.Arguments.{Arguments, no_arguments}
 use Rattle.teco_store.specs.State.{State}
 use Rattle.teco_step.specs.Families.{Types}
@@ -10,34 +9,13 @@ use Rattle.teco_step.specs.declared.failure.Failure.{Failure}
 use Rattle.teco_step.specs.declared.failure.Failure.TheVariants as failure
 use Rattle.teco_step.specs.declared.next.Next.{Next}
 use Rattle.teco_step.specs.declared.next.Next.TheVariants as next
-use Rattle.teco_io.specs.Terminal.{IsFrontOf, Screen, Shows, Puts, count_after}
-
-pub Shows-nil : (w : Screen) → Shows w w [] false
-Shows-nil w = record { more = Appends-nil w.shown; count = refl }
-
-pub Shows-trans : {a b c : Screen} {xs ys : List ℕ} {failed : Bool} → Shows a b xs false → Shows b c ys failed → Shows a c (xs ++ ys) failed
-Shows-trans {failed} p q = record { more = Appends-trans _ _ _ _ _ p.more q.more; count = q.count ∙ ap (count_after failed) p.count }
-
--- a put that comes after these bytes were shown
-pub Puts-after : {A E : Type 0} {a b : Screen} {xs : List ℕ} (c : Screen) (ys : List ℕ) (r : Result A E)
-    → Shows a b xs false → Puts b c ys r → Puts a c (xs ++ ys) r
-Puts-after c ys (Ok done) p q = Shows-trans p q
-Puts-after {xs} c ys (Err fault) p (front, (rest, e), q) = (xs ++ front, (rest, ap (λ l. xs ++ l) e ∙ sym (append_assoc xs front rest)), Shows-trans p q)
+use Rattle.teco_io.specs.Terminal.{IsFrontOf, Screen, Shows, Puts}
 
 -- a put that failed before more bytes came
 pub Puts-front : {A E : Type 0} {a b : Screen} {xs : List ℕ} (front ys : List ℕ) (r : Result A E)
     → IsFrontOf front xs → Shows a b front true → IsErr r → Puts a b (xs ++ ys) r
 Puts-front front ys (Ok done) p q is = absurd (false≢true is)
 Puts-front front ys (Err fault) (rest, e) q is = (front, (rest ++ ys, ap (λ l. l ++ ys) e ∙ append_assoc front rest ys), q)
-
--- some bytes, before and after others
-pub nonempty_before : (xs ys : List ℕ) → xs ≢ [] → xs ++ ys ≢ []
-nonempty_before [] ys some = λ _. some refl
-nonempty_before (x ∷ xs) ys some = λ e. cc
-
-pub nonempty_after : (xs ys : List ℕ) → ys ≢ [] → xs ++ ys ≢ []
-nonempty_after [] ys some = some
-nonempty_after (x ∷ xs) ys some = λ e. cc
 
 -- A command that types was done, or cut short, by the answer of its put.
 pub types_answered : {E : Type 0} (f : Action) (s : State) (a left : Arguments) (before after : Screen) (bytes : List ℕ) (d : Result (Unit {0}) E) (r : Result Next Failure)

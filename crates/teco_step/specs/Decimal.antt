@@ -11,6 +11,7 @@ use Rattle.teco_scan.specs.Scan.{begins_run, run_of}
 use Rattle.teco_store.specs.State.{State, pointed}
 use Rattle.teco_step.specs.Editing.{inserts}
 use Rattle.teco_step.specs.Step.{Made, edits, takes_one}
+use Prim.Native.Char.{code}
 
 -- what is written as a number: its value, and how many bytes it has
 pub record Numeral : Type 0 where
@@ -27,7 +28,7 @@ negated n = record { value = neg_ℤ n.value; size = n.size + 1 }
 -- whether bytes begin with a - that is directly before digits
 abbrev pub begins_negative : List ℕ → Bool
 begins_negative [] = false
-begins_negative (b ∷ bs) = b == 45 && begins_run bs
+begins_negative (b ∷ bs) = b == code "-" && begins_run bs
 
 -- The number that bytes begin with.
 abbrev pub numeral_at : List ℕ → Numeral

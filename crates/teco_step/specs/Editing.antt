@@ -10,6 +10,7 @@ use Rattle.teco_core.specs.declared.limits.TheConstants.{TEXT_LIMIT}
 use Rattle.teco_store.specs.State.{State, spliced, pointed}
 use Rattle.teco_step.specs.Step.{Made, changes, takes_one_or, takes_reach, as_byte, place_or}
 use Rattle.teco_step.specs.Line.{line}
+use Prim.Native.Char.{code}
 
 -- The pointer goes to a place.
 abbrev pub moves : ℕ → State → Arguments → Made
@@ -106,4 +107,4 @@ abbrev pub insert_tab : List ℕ → State → Arguments → Made
 insert_tab text s a = do
   t ← taken_from a
   none ← untaken t
-  inserts (9 ∷ text) s a
+  inserts (code "\t" ∷ text) s a

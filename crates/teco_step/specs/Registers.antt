@@ -15,12 +15,12 @@ use Rattle.teco_step.specs.Editing.{inserts}
 use Rattle.teco_step.specs.Typing.{part}
 
 -- Qq gives the number of q; with a colon the length of its text.
-abbrev pub value_of : Modifiers → ℕ → State → ℤ
-value_of m q s = if m.colons == 1 then pos (length (content s.registers q).text)
+abbrev pub number_or_length : Modifiers → ℕ → State → ℤ
+number_or_length m q s = if m.colons == 1 then pos (length (content s.registers q).text)
     else (content s.registers q).number
 
 abbrev pub register_value : Modifiers → ℕ → State → Arguments → Made
-register_value m q s a = gives s a (value_of m q s)
+register_value m q s a = gives s a (number_or_length m q s)
 
 -- nUq: the number of q becomes n.
 abbrev pub set_number : ℕ → State → Arguments → Made

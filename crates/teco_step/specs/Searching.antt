@@ -15,8 +15,8 @@ use Rattle.teco_step.specs.Editing.{with_text_in_limit}
 use Rattle.teco_step.specs.Step.{Attempt, End, Setting, on, stop, takes_none, takes_one_or}
 
 -- An empty text means the last one;
-abbrev pub meant : List ℕ → State → List ℕ
-meant text s = if length text == 0 then unwrap_or s.last_search [] else text
+abbrev pub text_or_last : List ℕ → State → List ℕ
+text_or_last text s = if length text == 0 then unwrap_or s.last_search [] else text
 
 -- where there is none either, it is ISS.
 abbrev pub some_text : List ℕ → Result (List ℕ) Code
@@ -25,7 +25,7 @@ some_text text = if length text == 0 then Err Iss else Ok text
 -- what a search looks for, in the case mode of the state; a text that spells nothing is ICE
 abbrev pub sought : List ℕ → State → Result Sought Code
 sought text s = do
-  some ← some_text (meant text s)
+  some ← some_text (text_or_last text s)
   elements ← read some
   Ok (looked_for s.case_mode elements)
 

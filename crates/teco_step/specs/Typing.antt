@@ -1,5 +1,5 @@
 -- Typing.
-use Rattle.std.specs.Prelude.{ℕ, ℤ, Bool, List, [], ◌∷◌, ◌++◌, take, drop, pos, false, true, ◌==◌, if◌then◌else◌}
+use Rattle.std.specs.Prelude.{ℕ, ℤ, Bool, List, [], ◌∷◌, ◌++◌, take, drop, pos, false, true, ◌==◌, if◌then◌else◌, codes}
 use Rattle.std.specs.Fmt.{digits, signed_decimal}
 use Rattle.teco_core.specs.declared.code.Code.TheVariants.{Arg, Nae}
 use Rattle.teco_core.specs.Refusal.{◌>>=◌}
@@ -46,7 +46,7 @@ type_byte s a = do
 
 -- bytes that are a line, and so end with CR LF; with a colon nothing follows them
 abbrev pub ended : Modifiers → List ℕ → List ℕ
-ended m bytes = if m.colons == 1 then bytes else bytes ++ 13 ∷ 10 ∷ []
+ended m bytes = if m.colons == 1 then bytes else bytes ++ codes "\r\n"
 
 -- n in decimal, or the 32-bit two's complement of n in octal
 abbrev pub numeral : Bool → ℤ → List ℕ

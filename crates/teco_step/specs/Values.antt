@@ -27,15 +27,15 @@ number digits s a = do
 
 -- B gives 0, Z the length of the text, and a point the pointer; ^E gives -1 where a form feed ended the page, ^N where no input is
 -- left, and else 0.
-abbrev pub value_of : Quantity → State → ℤ
-value_of quantity.Beginning s = pos 0
-value_of quantity.End s = pos (length s.text)
-value_of quantity.Pointer s = pos s.pointer
-value_of quantity.FormFeed s = truth s.form_feed
-value_of quantity.InputEnd s = truth (is_input_over s)
+abbrev pub quantity_value : Quantity → State → ℤ
+quantity_value quantity.Beginning s = pos 0
+quantity_value quantity.End s = pos (length s.text)
+quantity_value quantity.Pointer s = pos s.pointer
+quantity_value quantity.FormFeed s = truth s.form_feed
+quantity_value quantity.InputEnd s = truth (is_input_over s)
 
 abbrev pub give_quantity : Quantity → State → Arguments → Made
-give_quantity q s a = gives s a (value_of q s)
+give_quantity q s a = gives s a (quantity_value q s)
 
 -- ^^ and a byte gives the byte's code.
 abbrev pub give_byte : ℕ → State → Arguments → Made

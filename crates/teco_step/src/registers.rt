@@ -31,7 +31,7 @@ fn length_of<D: Desk>(desk: &D, q: Reg) -> usize
 
 /// The number of `q`, or with a colon the length of its text.
 fn value_of<D: Desk>(desk: &D, modifiers: Modifiers, q: Reg) -> i32
-    ensures { result ≡ registers.value_of modifiers q (D.state desk.now) }
+    ensures { result ≡ registers.number_or_length modifiers q (D.state desk.now) }
 {
     if modifiers.colons == 1 {
         return length_of(desk, q) as i32;

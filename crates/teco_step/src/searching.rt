@@ -21,7 +21,7 @@ use teco_store::Desk;
 
 /// The text that a search means: an empty one means the last one.
 fn meant<'a, D: Desk>(desk: &'a D, text: &'a [u8]) -> &'a [u8]
-    ensures { result.now ≡ searching.meant text.now (D.state desk.now) }
+    ensures { result.now ≡ searching.text_or_last text.now (D.state desk.now) }
 {
     if !text.is_empty() {
         return text;

@@ -38,7 +38,7 @@ pub fn number<D: Desk>(desk: &D, digits: &[u8], args: &mut Args) -> Result<Next,
 
 /// The places of `B`, `Z` and `.`, whether a form feed ended the page, and whether no input is left.
 fn value_of<D: Desk>(desk: &D, quantity: Quantity) -> i32
-    ensures { result ≡ values.value_of quantity (D.state desk.now) }
+    ensures { result ≡ values.quantity_value quantity (D.state desk.now) }
 {
     match quantity {
         Quantity::Beginning => 0,

@@ -1,6 +1,7 @@
 use Rattle.std.proofs.Common.{subst}
 use Rattle.std.proofs.lemmas.Result.{MatchResult-from_err, MatchResult-weaker}
-use Rattle.teco_step.proofs.Shown.{Puts-after, Puts-front, nonempty_before, nonempty_after}
+use Rattle.teco_io.proofs.Shown.{Puts-after, nonempty_before, nonempty_after}
+use Rattle.teco_step.proofs.Shown.{Puts-front}
 use Rattle.teco_io.specs.Terminal.{Puts}
 use Rattle.teco_step.proofs.typing.put_range.Goals as goal
 
