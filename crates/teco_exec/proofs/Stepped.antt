@@ -66,7 +66,7 @@ module _ (text : List ℕ) (w : Setting) (i b : Bool) (s : State) (a : Arguments
 -- The effect of a token is that of its item where it is.
 pub effect_here : (c : Cursor) (token : Token) (work : Option Work) (opens before : Bool) (s : State) → IsStepIn c.text.now token
     → (looks_around token.kind ≡ true → opens ≡ inside_iteration (cursor c).blocks) → (looks_around token.kind ≡ true → before ≡ leave_is_next (scan (cursor c).left))
-    → token_effect c.text.now token work opens before s (arguments c.args) ≡ effect (item_of_kind c.text.now token.kind) (setting_of token.modifiers work (cursor c)) s (arguments c.args)
+    → token_effect c.text.now token (record { work = work; inside = opens; before = before }) s (arguments c.args) ≡ effect (item_of_kind c.text.now token.kind) (setting_of token.modifiers work (cursor c)) s (arguments c.args)
 effect_here c token work opens before s =
     by_kind c.text.now (record { modifiers = token.modifiers; work = work; inside = opens; before = before }) (inside_iteration (cursor c).blocks) (leave_is_next (scan (cursor c).left)) s (arguments c.args) token.kind
 
@@ -118,7 +118,7 @@ module _ (c : Cursor) (token : Token) (work : Option Work) (callers : List Calle
 
   module _ (opens before : Bool) (is : IsStepIn c.text.now token) (looks : looks_around token.kind ≡ true → opens ≡ inside_iteration (cursor c).blocks) (sees : looks_around token.kind ≡ true → before ≡ leave_is_next (scan (cursor c).left)) where
     abbrev pub effect_in : State → Step
-    effect_in s = token_effect c.text.now token work opens before s (arguments c.args)
+    effect_in s = token_effect c.text.now token (record { work = work; inside = opens; before = before }) s (arguments c.args)
 
     token_pays : (s : State) → Pays (at_token c token work callers) (after_token (effect_in s).arguments (effect_in s).end) s (effect_in s).state (effect_in s).typed (effect_in s).load
     token_pays s now same = record {
@@ -295,7 +295,7 @@ kind_never laws text (kind.Item t) w s a called is none e = let x : true ≡ fal
 kind_never laws text k w s a called is none e = absurd is
 
 pub never_calls : CallsByCalls → (text : List ℕ) (token : Token) (work : Option Work) (opens before : Bool) (s : State) (a : Arguments) (name : List ℕ) (old new : Moment) (n : Next)
-    → IsStepIn text token → calls_text token.kind ≡ false → Steps (token_effect text token work opens before s a) name old new n → (q : ℕ) → n ≡ next.Call q → ⊥
+    → IsStepIn text token → calls_text token.kind ≡ false → Steps (token_effect text token (record { work = work; inside = opens; before = before }) s a) name old new n → (q : ℕ) → n ≡ next.Call q → ⊥
 never_calls laws text token work opens before s a name old new n is none (inl done) q e =
     kind_never laws text token.kind (record { modifiers = token.modifiers; work = work; inside = opens; before = before }) s a (content new.state.registers q).text is none (sym done.end ∙ ap (end_of new.state name) e)
 never_calls laws text token work opens before s a name old new n is none (inr (inl lacks)) q e = let x : next.Error Mem ≡ next.Call q = sym lacks.code ∙ e in cc

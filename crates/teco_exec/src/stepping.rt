@@ -27,7 +27,7 @@ use teco_io::Terminal;
 use teco_scan::{
     Bare, Command, Found, Item, RegisterCommand, Span, TextCommand, Token, TokenKind, block_laws,
 };
-use teco_step::{Next, Work, effect_laws, step_token};
+use teco_step::{Context, Next, Work, effect_laws, step_token};
 use teco_store::Desk;
 
 /// Passes what was found at the cursor, where it uses no step, or else does its steps.
@@ -133,16 +133,12 @@ fn token_step<D: Desk, S: Stop, T: Terminal>(
     }
     let inside = iteration_is_seen(cursor, token);
     let before = leave_is_seen(cursor, token);
-    let next = step_token(
-        desk,
-        cursor.text,
-        token,
+    let context = Context {
         work,
-        &mut cursor.args,
         inside,
         before,
-        term,
-    );
+    };
+    let next = step_token(desk, cursor.text, token, context, &mut cursor.args, term);
     if let Some(code) = unfinished(&next) {
         return Progress::Done(Flow::Stop(code));
     }

@@ -11,11 +11,12 @@ use Rattle.teco_scan.specs.declared.command.TextCommand.TheVariants as text_comm
 use Rattle.teco_store.specs.State.{State}
 use Rattle.teco_store.specs.Trail.{Trail, moved}
 use Rattle.teco_io.specs.Terminal.{Shows, IsFrontOf}
+use Rattle.teco_scan.specs.declared.command.Modifiers.{Modifiers}
 use Rattle.teco_scan.specs.declared.token.Token.{Token}
 use Rattle.teco_scan.specs.declared.token.TokenKind.{TokenKind}
 use Rattle.teco_scan.specs.declared.token.TokenKind.TheVariants as kind
 use Rattle.teco_scan.specs.Seen.{item_in, IsItemIn}
-use Rattle.teco_step.specs.declared.next.Work.{Work}
+use Rattle.teco_step.specs.declared.next.Context.{Context}
 use Rattle.teco_step.specs.Effect.{effect}
 use Rattle.teco_step.specs.Ending.{end_of, is_unfinished}
 use Rattle.teco_step.specs.declared.next.Setting.{Setting}
@@ -89,10 +90,17 @@ abbrev pub kind_effect : List ℕ → TokenKind → Setting → State → Argume
 kind_effect text (kind.Item i) w s a = effect (item_in text i) w s a
 kind_effect text k w s a = settled s a unbuilt
 
-abbrev pub token_effect : List ℕ → Token → Option Work → Bool → Bool → State → Arguments → Step
-token_effect text token work inside before s a =
-    kind_effect text token.kind
-    (record { modifiers = token.modifiers; work = work; inside = inside; before = before }) s a
+-- a token's modifiers, and the context that its step comes in
+abbrev pub setting_in : Context → Modifiers → Setting
+setting_in context m = record {
+  modifiers = m;
+  work = context.work;
+  inside = context.inside;
+  before = context.before;
+}
+
+abbrev pub token_effect : List ℕ → Token → Context → State → Arguments → Step
+token_effect text token context s a = kind_effect text token.kind (setting_in context token.modifiers) s a
 
 -- the name that a jump names
 abbrev pub name_of : Item → List ℕ

@@ -23,6 +23,6 @@ mod value;
 pub use failure::{Failure, next_of};
 pub use laws::effect_laws;
 pub use line::line_place;
-pub use next::{Next, Setting, Work};
+pub use next::{Context, Next, Setting, Work};
 pub use number_laws::decimal_laws;
 pub use step::step_token;

@@ -9,8 +9,16 @@ pub struct Work {
     pub search: bool,
 }
 
-/// What surrounds a step: the modifiers of the token; what is left of it after an earlier step; whether an iteration of the same text
-/// is open; and whether a `;` without modifiers comes next.
+/// Where a step of a token comes: what is left of the token after an earlier step; whether an iteration of the same text is open; and
+/// whether a `;` without modifiers comes next.
+#[derive(Clone, Copy)]
+pub struct Context {
+    pub work: Option<Work>,
+    pub inside: bool,
+    pub before: bool,
+}
+
+/// What a step depends on beside its operands: the modifiers of the token, and its context.
 #[derive(Clone, Copy)]
 pub struct Setting {
     pub modifiers: Modifiers,

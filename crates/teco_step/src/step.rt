@@ -13,8 +13,8 @@ ghost use Rattle.teco_step.specs.declared.failure.Failure.TheVariants.{Memory};
 ghost use Rattle.teco_step.specs.declared.next.Next.TheVariants.{Error};
 
 use crate::{
-    Failure, Next, Setting, Work, case, control, edit, next_of, page_searching, pages, registers,
-    searching, typing, value,
+    Context, Failure, Next, Setting, case, control, edit, next_of, page_searching, pages,
+    registers, searching, typing, value,
 };
 use teco_core::{Args, Code, Reg};
 use teco_io::Terminal;
@@ -163,36 +163,32 @@ fn item_step<D: Desk, T: Terminal>(
     }
 }
 
-/// One step of a token of the text: its first, or a further one with this work left.
+/// One step of a token of the text: its first, or a further one where the context has work left.
 ///
-/// `inside` says that an iteration of the same text is open, and `before` that a `;` without modifiers comes next. The step does what
-/// it means; or it ends by [`Code::Mem`] or [`Code::Tty`], and then the state and the arguments are unchanged.
+/// The step does what it means; or it ends by [`Code::Mem`] or [`Code::Tty`], and then the state and the arguments are unchanged.
 #[inline(always)]
 pub fn step_token<D: Desk, T: Terminal>(
     desk: &mut D,
     text: &[u8],
     token: &Token,
-    work: Option<Work>,
+    context: Context,
     args: &mut Args,
-    inside: bool,
-    before: bool,
     term: &mut T,
 ) -> Next
     requires { IsStepIn text.now token.now }
-    ensures steps { Steps (token_effect text.now token.now work inside before (D.state desk.old)
-        (arguments args.old)) (name_in text.now token.now)
+    ensures steps { Steps (token_effect text.now token.now context (D.state desk.old) (arguments args.old))
+        (name_in text.now token.now)
         (at (D.state desk.old) (arguments args.old) (T.screen term.old))
         (at (D.state desk.new) (arguments args.new) (T.screen term.new)) result }
     ensures follows { (t : Trail) → D.follows desk.old t → D.follows desk.new
-        (trail_after result t (token_effect text.now token.now work inside before (D.state desk.old)
-        (arguments args.old)).load) }
+        (trail_after result t (token_effect text.now token.now context (D.state desk.old) (arguments args.old)).load) }
     ensures no_memory { takes_nothing_in text.now token.now ≡ true → result ≡ Error Mem → ⊥ }
 {
     let setting = Setting {
         modifiers: token.modifiers,
-        work,
-        inside,
-        before,
+        work: context.work,
+        inside: context.inside,
+        before: context.before,
     };
     match token.kind {
         TokenKind::Item(item) => { next_of(item_step(desk, text, item, setting, args, term)) }

@@ -17,7 +17,7 @@ use teco_search::{Pattern, find};
 use teco_serve::{Asked, Splitter};
 use teco_session::Session;
 use teco_source::{commands, listing};
-use teco_step::{Next, line_place, step_token};
+use teco_step::{Context, Next, line_place, step_token};
 use teco_store::{Desk, Editor};
 use teco_undo::Recorder;
 
@@ -93,7 +93,12 @@ fn a_token_is_done(alloc: Global) -> bool {
         return false;
     };
     let (desk, term) = (&mut editor, &mut terminal);
-    let next = step_token(desk, b"%A", &token, None, &mut args, false, false, term);
+    let context = Context {
+        work: None,
+        inside: false,
+        before: false,
+    };
+    let next = step_token(desk, b"%A", &token, context, &mut args, term);
     matches!(next, Next::On) && matches!(args.take(), Ok(Taken::One(1)))
 }
 
