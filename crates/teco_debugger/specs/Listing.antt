@@ -7,7 +7,7 @@ use Rattle.teco_core.specs.declared.case_mode.CaseMode.{CaseMode}
 use Rattle.teco_core.specs.declared.case_mode.CaseMode.TheVariants.{Either, Exact}
 use Rattle.teco_step.specs.Line.{line}
 use Rattle.teco_store.specs.State.{State}
-use Rattle.teco_messages.specs.Placed.{letter_of}
+use Rattle.teco_messages.specs.Placed.{register_name}
 use Rattle.teco_messages.specs.Spelling.{spelled, spelling}
 use Rattle.teco_debugger.specs.declared.listing.TheConstants.{MOST_SHOWN}
 
@@ -52,7 +52,7 @@ held_shown (b ∷ bytes) most =
 abbrev pub register_shown : List Content → ℕ → ℕ → List ℕ
 register_shown registers q most =
     let c : Content = content registers q in
-    letter_of q ∷ codes ": " ++ signed_decimal c.number ++ held_shown c.text most ++ 10 ∷ []
+    register_name q ∷ codes ": " ++ signed_decimal c.number ++ held_shown c.text most ++ 10 ∷ []
 
 -- with all of its text
 abbrev pub whole_register : List Content → ℕ → List ℕ

@@ -29,12 +29,12 @@ unfolding after_fillers
 twice_by b bs true e h = h
 twice_by b bs false e h = ap (λ x. if x then after_fillers bs else b ∷ bs) e
 
-fillers_twice : (bs : List ℕ) → after_fillers (after_fillers bs) ≡ after_fillers bs
+pub fillers_twice : (bs : List ℕ) → after_fillers (after_fillers bs) ≡ after_fillers bs
 unfolding after_fillers
 fillers_twice [] = refl
 fillers_twice (b ∷ bs) = twice_by b bs (is_filler b) refl (fillers_twice bs)
 
-scan_fillers : (bs : List ℕ) → scan (after_fillers bs) ≡ scan bs
+pub scan_fillers : (bs : List ℕ) → scan (after_fillers bs) ≡ scan bs
 unfolding scan
 scan_fillers bs = ap scan_here (fillers_twice bs)
 

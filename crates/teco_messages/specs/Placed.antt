@@ -1,13 +1,14 @@
 -- What is shown of where a run stands.
-use Rattle.std.specs.Prelude.{ℕ, ◌+◌, List, [], ◌∷◌, ◌++◌, codes, Option, Some, None, nat_lt, slice_get, if◌then◌else◌}
+use Rattle.std.specs.Prelude.{ℕ, ◌+◌, ◌-◌, List, [], ◌∷◌, ◌++◌, codes, Option, Some, None, nat_lt, slice_get, if◌then◌else◌}
 use Rattle.teco_core.specs.Register.{Content, content}
 use Rattle.teco_exec.specs.declared.place.Call.{Call}
 use Rattle.teco_exec.specs.declared.place.Place.{Place}
 use Rattle.teco_messages.specs.Shown.{place_shown}
+use Prim.Native.Char.{code}
 
 -- the letter or the digit that names a register
-abbrev pub letter_of : ℕ → ℕ
-letter_of q = if nat_lt q 26 then 65 + q else 22 + q
+abbrev pub register_name : ℕ → ℕ
+register_name q = if nat_lt q 26 then code "A" + q else code "0" - 26 + q
 
 abbrev pub text_of_call : Option Call → List Content → List ℕ → List ℕ
 text_of_call (Some call) registers string = (content registers call.register).text
@@ -18,7 +19,7 @@ abbrev pub text_under : Place → ℕ → List Content → List ℕ → List ℕ
 text_under place depth registers string = text_of_call (slice_get place.calls.items depth) registers string
 
 abbrev pub name_shown : ℕ → List ℕ
-name_shown register = letter_of register ∷ 32 ∷ []
+name_shown register = register_name register ∷ codes " "
 
 abbrev pub name_of_call : Option Call → List ℕ
 name_of_call (Some call) = name_shown call.register

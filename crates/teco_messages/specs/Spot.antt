@@ -2,9 +2,10 @@
 use Rattle.std.specs.Prelude.{ℕ, ◌+◌, Bool, ◌==◌, List, take, length, count_by}
 use Rattle.std.specs.List.{after_last}
 use Rattle.teco_messages.specs.declared.spot.Spot.{Spot}
+use Prim.Native.Char.{code}
 
 abbrev pub is_newline : ℕ → Bool
-is_newline b = b == 10
+is_newline b = b == code "\n"
 
 -- A place is in the line after as many as have ended before it, and its column tells the bytes of that line
 -- before it; both count from 1.

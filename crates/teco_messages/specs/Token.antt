@@ -3,9 +3,10 @@ use Rattle.std.specs.Prelude.{ℕ, ◌-◌, Bool, ◌==◌, ◌||◌, not, List,
 use Rattle.std.specs.List.{prefix_len}
 use Rattle.teco_core.specs.Ascii.{is_filler}
 use Rattle.teco_scan.specs.Scan.{Scanned, found, ended, fault, scan, after_fillers}
+use Rattle.teco_core.specs.declared.ascii.TheConstants.{ESC}
 
 abbrev pub ends_word : ℕ → Bool
-ends_word b = is_filler b || b == 27
+ends_word b = is_filler b || b == ESC
 
 -- the bytes up to a filler or an ESC, at least one and at most so many
 abbrev pub word_len : List ℕ → ℕ → ℕ

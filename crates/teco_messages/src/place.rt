@@ -3,7 +3,7 @@
 ghost use Rattle.std.specs.Prelude.{◌≡◌, ◌++◌, OnOk, Some};
 ghost use Rattle.std.specs.String.{string_bytes};
 ghost use Rattle.teco_core.specs.Register.{register_of};
-ghost use Rattle.teco_messages.specs.Placed.{call_in_shown, call_shown, letter_of, standing_shown, text_under};
+ghost use Rattle.teco_messages.specs.Placed.{call_in_shown, call_shown, register_name, standing_shown, text_under};
 ghost use Rattle.teco_messages.specs.Shown.{place_shown};
 
 use crate::spot::spot_of;
@@ -14,7 +14,7 @@ use teco_exec::{Call, Place};
 /// The letter or the digit that names a register.
 pub fn letter(q: Reg) -> char
     ensures names { register_of result ≡ Some q }
-    ensures value { result ≡ letter_of q }
+    ensures value { result ≡ register_name q }
 {
     let index = q.index() as u8;
     char::from(if index < 26 {
