@@ -2,6 +2,7 @@
 use Rattle.std.specs.Prelude.{◌≡◌, ◌⊎◌, ◌||◌, ℕ, List, Bool, codes, false, true, Result, Ok, Err, if◌then◌else◌}
 use Rattle.std.specs.String.{string_bytes}
 use Rattle.teco_lint.specs.Calls.{AreCalled}
+use Rattle.teco_lint.specs.Right.{AreRight}
 use Rattle.teco_lint.specs.Spelling.{is_misspelt}
 use Rattle.teco_lint.specs.Strings.{is_faulty}
 use Rattle.teco_driver.specs.Given.{come_as_wanted}
@@ -33,16 +34,22 @@ abbrev pub SaysOfLine : (List Bool → List ℕ → Bool) → Commands → List 
 SaysOfLine wrong commands bytes says = (alone all : Bool) × SaysAlone wrong commands alone × SaysOf wrong bytes all
     × (says ≡ (alone || all))
 
+-- Each text that a run of the commands reads runs as one without a fault, where the registers hold code that the commands call. By
+-- `checked_laws` none then ends by a code of a fault.
+abbrev pub RunWithoutFault : List ℕ → Type 0
+RunWithoutFault commands = (code : List Bool) × AreCalled code commands × AreRight code commands
+
 -- 2 if there is a fault, else 0
 abbrev pub status_of_check : Bool → ℕ
 status_of_check faulty = if faulty then 2 else 0
 
 -- The lines of the check are put on the terminal, and nothing is told on standard error. The status says whether there is a
--- fault.
+-- fault; if not, the commands run without one.
 pub record ShowsVerdict {T E : Type 0} (screen : T → Screen) (commands : Commands) (bytes : List ℕ) (old new : T)
     (told telling : E) (status : ℕ) : Type 0 where
   pub faulty : Bool
   pub verdict : SaysOfLine is_faulty commands bytes faulty
+  pub right : faulty ≡ false → RunWithoutFault bytes
   pub status_is : status ≡ status_of_check faulty
   pub lines : List ℕ
   pub shown : Shows (screen old) (screen new) lines false

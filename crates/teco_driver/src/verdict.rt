@@ -2,7 +2,7 @@
 ghost use Rattle.std.specs.Prelude.{◌≡◌, IfOk, false};
 ghost use Rattle.teco_lint.specs.Spelling.{is_misspelt};
 ghost use Rattle.teco_lint.specs.Strings.{is_faulty};
-ghost use Rattle.teco_driver.specs.Checks.{SaysOfLine, SaysAlone, SaysOf};
+ghost use Rattle.teco_driver.specs.Checks.{RunWithoutFault, SaysOfLine, SaysAlone, SaysOf};
 
 use crate::{ReadSources, source_name};
 use std::alloc::Global;
@@ -103,6 +103,7 @@ fn verdict_on_all(
 ) -> Result<Verdict, NoMemory>
     ensures faulty { IfOk result (λ verdict. SaysOf is_faulty bytes.now verdict.is_faulty) }
     ensures misspelt { IfOk result (λ verdict. SaysOf is_misspelt bytes.now verdict.is_misspelt) }
+    ensures right { IfOk result (λ verdict. verdict.is_faulty ≡ false → RunWithoutFault bytes.now) }
 {
     let advice = check(alloc, bytes)?;
     let lines = if hints {
@@ -188,6 +189,7 @@ pub(crate) fn verdict_on(
 ) -> Result<Verdict, NoMemory>
     ensures faulty { IfOk result (λ verdict. SaysOfLine is_faulty commands.now bytes.now verdict.is_faulty) }
     ensures misspelt { IfOk result (λ verdict. SaysOfLine is_misspelt commands.now bytes.now verdict.is_misspelt) }
+    ensures right { IfOk result (λ verdict. verdict.is_faulty ≡ false → RunWithoutFault bytes.now) }
 {
     let alone = verdict_alone(alloc, commands)?;
     let all = verdict_on_all(alloc, commands, parts, bytes, hints)?;
