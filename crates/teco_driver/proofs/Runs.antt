@@ -1,5 +1,5 @@
 -- What lines that the same words say have in common, and runs one after another.
-use Rattle.std.proofs.Common.{◌≡◌, ◌++◌, inl, inr, ℕ, List, [], ◌∷◌, Result, Ok, Err, String, Vec, Global, refl, sym, ◌∙◌, ap, subst, false, true≢false}
+use Rattle.std.proofs.Common.{◌≡◌, ◌++◌, inl, inr, ℕ, List, [], ◌∷◌, Ok, Err, refl, sym, ◌∙◌, ap, subst, false, true≢false}
 use Rattle.std.proofs.lemmas.Bool.{cases_Bool}
 use Rattle.teco_driver.specs.Given.{EditsBy, EditsByFile, EditsGiven, HostView, IsFeed}
 use Rattle.teco_driver.specs.declared.giving.Feed.{Feed}
@@ -10,7 +10,6 @@ use Rattle.teco_cli.specs.declared.line.Commands.{Commands}
 use Rattle.teco_cli.specs.declared.line.Commands.TheVariants.{StandardInput, Sources, Pages, Bytes}
 use Rattle.teco_cli.specs.declared.line.Line.{Line}
 use Rattle.teco_serve.specs.declared.fate.Fate.{Fate}
-use Rattle.teco_cli.specs.declared.fault.LineFault.{LineFault}
 use Rattle.teco_cli.specs.CommandLine.{IsLine}
 use Rattle.teco_cli.specs.Words.{IsLineIn, Words}
 use Rattle.teco_driver.specs.Lines.{worse, worst}

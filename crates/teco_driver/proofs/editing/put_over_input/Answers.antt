@@ -1,5 +1,5 @@
 use Rattle.std.proofs.Common.{refl, IsTrue, true}
-use Rattle.teco_fs.specs.Seen.{KeepsDisk, disk_seen}
+use Rattle.teco_fs.specs.Seen.{disk_seen}
 use Rattle.teco_fs.specs.Writing.{both}
 use Rattle.teco_driver.specs.Run.{doings_after, named_output}
 use Rattle.teco_serve.specs.declared.served.Served.TheVariants.{Exit}

@@ -1,7 +1,7 @@
 use Rattle.std.proofs.Common.{◌≡◌, ℕ, List, arith, inl, inr, refl, sym, subst}
 use Rattle.teco_cli.specs.StreamNames.{is_standard_input}
 use Rattle.teco_cli.specs.declared.line.Line.{Line}
-use Rattle.teco_driver.specs.Given.{EditsByFile, EditsGiven, HostView, host_view}
+use Rattle.teco_driver.specs.Given.{EditsGiven, HostView, host_view}
 use Rattle.teco_driver.specs.Run.{standard_input}
 use Rattle.teco_driver.specs.Seen.{commands_seen}
 use Rattle.teco_driver.specs.declared.giving.Feed.{Feed}

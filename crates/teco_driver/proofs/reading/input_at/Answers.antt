@@ -1,4 +1,4 @@
-use Rattle.std.proofs.Common.{◌∙◌, true, false, refl, sym, true≢false, Result, Ok, Err, inl}
+use Rattle.std.proofs.Common.{◌∙◌, refl, sym, true≢false, Result, Ok, Err, inl}
 use Rattle.std.specs.Prelude.{◌⊎◌, IfErr}
 use Rattle.teco_driver.proofs.Doings.{kept_same}
 use Rattle.teco_driver.proofs.reading.input_at.Goals as goal
