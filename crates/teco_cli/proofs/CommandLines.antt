@@ -26,7 +26,8 @@ use Rattle.clap.proofs.CallerLemmas.{default_present, required_has_value}
 use Rattle.clap.proofs.SimpleLemmas.{plain_fields}
 use Rattle.clap.proofs.WalkLemmas.{first_value-rows, one_text-rows}
 use Rattle.teco_core.specs.declared.limits.TheConstants.{DEPTH_LIMIT}
-use Rattle.teco_cli.specs.CommandLine.{AreMany, HasLine, IsCommandsFault, IsFaultSaid, IsTecoError, IsFaultOnceMade, IsGiven, IsLineBy, IsLineFault, IsMisfit, IsReadFault, IsRefusal, teco_app}
+use Rattle.teco_cli.specs.CommandLine.{IsCommandsFault, IsFaultSaid, IsTecoError, IsFaultOnceMade, IsLineBy, IsLineFault, IsMisfit, IsReadFault, IsRefusal, teco_app}
+use Rattle.teco_cli.specs.Options.{AreMany, HasLine, IsGiven}
 use Rattle.teco_cli.specs.Values.{IsNumber, number_of}
 use Rattle.teco_cli.specs.Conflict.{has_conflict}
 use Rattle.teco_cli.specs.Joining.{joined}

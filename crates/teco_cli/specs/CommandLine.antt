@@ -1,10 +1,9 @@
 -- What the command line says: teco [OPTIONS] INPUT...
-use Rattle.std.specs.Prelude.{Bool, ◌-◌, ◌||◌, nat_lt, length, take, map, unwrap_or, ◌++◌, IfSome, IsSomeAnd, ◌≡◌, ◌≤◌, ◌==◌, ℕ, List, [], ◌∷◌, Option, Some, None, IsTrue, ◌↔◌, codes, true}
-use Rattle.std.specs.Prelude.{false, option_map, is_some, ⊤, ◌⊎◌}
-use Rattle.std.specs.List.{count_by, suffix_len}
-use Rattle.std.specs.String.{string_bytes}
-use Rattle.clap.specs.Words.{all_of, App, IsAmong, IsUnsignedIn, Row, Rule, Text, fault_of, first_of, matches_of, new_app}
-use Rattle.clap.specs.Words.{new_rule, one_of, takes}
+use Rattle.std.specs.Prelude.{Bool, ◌-◌, length, take, ◌++◌, IfSome, ◌≡◌, ◌≤◌, ◌==◌, ℕ, List, [], ◌∷◌, Option, Some, codes, true}
+use Rattle.std.specs.Prelude.{false, ⊤, ◌⊎◌}
+use Rattle.std.specs.List.{suffix_len}
+use Rattle.clap.specs.Words.{App, IsAmong, Row, Rule, Text, fault_of, matches_of, new_app}
+use Rattle.clap.specs.Words.{new_rule, takes}
 use Rattle.clap.specs.declared.builder.action.ArgAction.TheVariants.{Append, Set}
 use Rattle.clap.specs.declared.error.kind.ErrorKind.{ErrorKind}
 use Rattle.clap.specs.declared.error.kind.ErrorKind.TheVariants as kind
@@ -12,13 +11,10 @@ use Rattle.teco_core.specs.declared.ascii.TheConstants.{ESC}
 use Rattle.teco_core.specs.declared.limits.TheConstants.{DEPTH_LIMIT}
 use Rattle.teco_cli.specs.Conflict.{has_conflict}
 use Rattle.teco_cli.specs.Joining.{joined}
-use Rattle.teco_cli.specs.OptionRules.{option_rules}
+use Rattle.teco_cli.specs.Options.{AreMany, HasLine, SaysMany, option_rules}
 use Rattle.teco_cli.specs.OptionTable.{with_rules}
 use Rattle.teco_cli.specs.Parsing.{with_version}
 use Rattle.teco_cli.specs.Refusals.{IsFaulty, IsToldAs}
-use Rattle.teco_cli.specs.Values.{number_of}
-use Rattle.teco_cli.specs.declared.line.Commands.{Commands}
-use Rattle.teco_cli.specs.declared.line.Commands.TheVariants.{StandardInput, Sources, Pages, Bytes}
 use Rattle.teco_cli.specs.declared.line.Line.{Line}
 use Rattle.teco_cli.specs.declared.fault.LineFault.{LineFault}
 use Rattle.teco_cli.specs.declared.fault.LineFault.TheVariants.{Refused, NoMemory}
@@ -74,62 +70,10 @@ without_last_escapes bytes = take (length bytes - suffix_len is_escape bytes) by
 abbrev pub on_pages : List ℕ → List ℕ
 on_pages strings = codes "Y<" ++ without_last_escapes strings ++ (ESC ∷ code " " ∷ ESC ∷ codes "-1-^N;P>EX" ++ (ESC ∷ ESC ∷ []))
 
--- --execute or --file gives a source
-abbrev pub has_sources : Option Text → List Text → Bool
-has_sources word files = is_some word || nat_lt 0 (length files)
-
--- Where the commands come from, by the texts of --execute, --file, --pages and --bytes: from the sources of the
--- first two where they give any; else from the one that is given; from standard input where none is.
-abbrev pub IsCommands : Option Text → List Text → Option Text → Option Text → Commands → Type 0
-IsCommands word files pages bytes StandardInput = (has_sources word files ≡ false) × (pages ≡ None) × (bytes ≡ None)
-IsCommands word files pages bytes (Sources names text) = (has_sources word files ≡ true)
-    × (files ≡ map string_bytes names.items) × (word ≡ option_map string_bytes text) × (pages ≡ None) × (bytes ≡ None)
-IsCommands word files pages bytes (Pages text) = (has_sources word files ≡ false)
-    × (pages ≡ Some (string_bytes text)) × (bytes ≡ None)
-IsCommands word files pages bytes (Bytes name) = (has_sources word files ≡ false)
-    × (pages ≡ None) × (bytes ≡ Some (string_bytes name))
-
--- More than one of them is given: such a line is faulty.
-abbrev pub AreMany : Option Text → List Text → Option Text → Option Text → Type 0
-AreMany word files pages bytes = 2 ≤ count_by (λ given. given) (has_sources word files ∷ is_some pages ∷ is_some bytes ∷ [])
-
 -- Why a line gives no commands: memory was refused, or it gives them more than once, and is faulty.
 abbrev pub IsCommandsFault : Option Text → List Text → Option Text → Option Text → LineFault → Type 0
 IsCommandsFault word files pages bytes NoMemory = ⊤
 IsCommandsFault word files pages bytes (Refused refusal) = AreMany word files pages bytes × (refusal.refused_as ≡ Faulty)
-
--- A parse says that the commands come from there, and that it gives them more than once.
-abbrev pub SaysCommands : List Row → Commands → Type 0
-SaysCommands rows = IsCommands (first_of (codes "execute") rows) (unwrap_or (all_of (codes "file") rows) [])
-    (first_of (codes "pages") rows) (first_of (codes "bytes") rows)
-
-abbrev pub SaysMany : List Row → Type 0
-SaysMany rows = AreMany (first_of (codes "execute") rows) (unwrap_or (all_of (codes "file") rows) [])
-    (first_of (codes "pages") rows) (first_of (codes "bytes") rows)
-
--- The line has what a parse gives for each argument. `first_of` is an argument's value as text; `one_of` is
--- its text where it is read as a number or as a flag.
-pub record HasLine (rows : List Row) (line : Line) : Type 0 where
-  -- the input is there
-  pub input : first_of (codes "input") rows ≡ Some (string_bytes line.input)
-  -- the inputs after it
-  pub more : unwrap_or (all_of (codes "more") rows) [] ≡ map string_bytes line.more.items
-  -- the output, if there is one
-  pub output : first_of (codes "output") rows ≡ option_map string_bytes line.output
-  -- where the commands come from, so that one place of them is given, or none
-  pub commands : SaysCommands rows line.commands
-  -- the limit, which is there: by its default where it is not given
-  pub limit : option_map number_of (one_of (codes "limit") rows) ≡ Some line.limit
-  -- the seconds that a string may run, if they are given
-  pub seconds : option_map number_of (one_of (codes "seconds") rows) ≡ line.seconds
-  pub prompt : IsTrue line.prompt ↔ (one_of (codes "prompt") rows ≡ Some (codes "true"))
-  pub in_place : IsTrue line.in_place ↔ (one_of (codes "in-place") rows ≡ Some (codes "true"))
-  pub check : IsTrue line.check ↔ (one_of (codes "check") rows ≡ Some (codes "true"))
-  pub explain : IsTrue line.explain ↔ (one_of (codes "explain") rows ≡ Some (codes "true"))
-  -- the depth of the history, if one is given
-  pub undo : option_map number_of (one_of (codes "undo") rows) ≡ line.undo
-  -- the line ends after which a page ends, if they are given
-  pub page_lines : option_map number_of (one_of (codes "page-lines") rows) ≡ line.page_lines
 
 -- The line has what the parse of these words gives.
 pub record IsLineBy (words : List Text) (line : Line) : Type 0 where
@@ -150,14 +94,6 @@ pub record IsFit (line : Line) : Type 0 where
   pub seconds : IfSome line.seconds IsTime
   pub page_lines : IfSome line.page_lines IsPageLength
   pub fits : has_conflict line ≡ false
-
--- what every parse gives
-pub record IsGiven (rows : List Row) : Type 0 where
-  pub input : is_some (first_of (codes "input") rows) ≡ true
-  pub limit : IsSomeAnd (one_of (codes "limit") rows) (IsUnsignedIn 0 1000000000000)
-  pub seconds : IfSome (one_of (codes "seconds") rows) (IsUnsignedIn 1 1000000000000)
-  pub undo : IfSome (one_of (codes "undo") rows) (IsUnsignedIn 1 DEPTH_LIMIT)
-  pub page_lines : IfSome (one_of (codes "page-lines") rows) (IsUnsignedIn 1 1000000000)
 
 -- A parse says what doesn't go together: more than one place of the commands, or a line with a conflict.
 abbrev pub SaysConflict : List Row → Type 0

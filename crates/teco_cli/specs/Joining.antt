@@ -4,7 +4,7 @@ use Rattle.std.specs.Prelude.{ℕ, Bool, false, ◌&&◌, ◌||◌, ◌==◌, �
 use Rattle.std.specs.List.{list_any}
 use Rattle.std.specs.Str.{bytes_eq}
 use Rattle.clap.specs.Words.{Rule, Text}
-use Rattle.teco_cli.specs.OptionRules.{option_rules}
+use Rattle.teco_cli.specs.Options.{option_rules}
 use Prim.Native.Char.{code}
 
 -- the word is --name, with nothing after it

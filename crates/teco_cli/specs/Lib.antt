@@ -1,7 +1,7 @@
 pub mod CommandLine
 pub mod Conflict
 pub mod Joining
-pub mod OptionRules
+pub mod Options
 pub mod OptionTable
 pub mod Values
 pub mod Parsing

@@ -2,7 +2,8 @@
 ghost use Rattle.clap.specs.Words.{app_of, found_of, rows_of};
 ghost use Rattle.std.specs.Prelude.{◌≡◌, ◌≤◌, IfErr, IfOk, IfSome, codes, false, map};
 ghost use Rattle.std.specs.String.{string_bytes};
-ghost use Rattle.teco_cli.specs.CommandLine.{HasLine, IsCommands, IsCommandsFault, IsDepth, IsFaultOnceMade, IsFaultSaid, IsGiven, IsLine, IsLineBy, IsLineFault, IsMisfit, IsPageLength, IsTime, IsReadFault, SaysCommands, teco_app};
+ghost use Rattle.teco_cli.specs.CommandLine.{IsCommandsFault, IsDepth, IsFaultOnceMade, IsFaultSaid, IsLine, IsLineBy, IsLineFault, IsMisfit, IsPageLength, IsTime, IsReadFault, teco_app};
+ghost use Rattle.teco_cli.specs.Options.{HasLine, IsCommands, IsGiven, SaysCommands};
 ghost use Rattle.teco_cli.specs.Values.{text_behind, texts_behind};
 ghost use Rattle.teco_cli.specs.Conflict.{has_conflict};
 

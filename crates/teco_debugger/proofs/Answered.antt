@@ -1,9 +1,8 @@
 -- What commands show.
 use Rattle.std.proofs.Common.{◌≡◌, ◌∙◌, ◌++◌, ◌∷◌, List, [], ℕ, Result, Ok, Err, refl, ap, map, subst}
 use Rattle.std.specs.Prelude.{OnOk}
-use Rattle.teco_debugger.specs.Verb.{verb_by, verbs}
+use Rattle.teco_debugger.specs.Commands.{OnlyShows, ShowsHelp, verb_by, verbs}
 use Rattle.teco_debugger.specs.declared.verb.VerbRow.{VerbRow}
-use Rattle.teco_debugger.specs.Answering.{OnlyShows, ShowsHelp}
 use Rattle.teco_debugger.specs.Help.{help_shown}
 use Rattle.teco_debugger.specs.Moving.{Arrives, Goes, MovesTo}
 use Rattle.teco_debugger.specs.declared.debugger.Debugger.{Debugger}

@@ -1,5 +1,5 @@
-pub mod Answering
 pub mod CommandLine
+pub mod Commands
 pub mod Ending
 pub mod Help
 pub mod Listing
@@ -11,5 +11,4 @@ pub mod Showing
 pub mod Spelling
 pub mod Walk
 pub mod Finding
-pub mod Verb
 pub mod Number

@@ -3,8 +3,7 @@ use Rattle.std.specs.Prelude.{◌≡◌, ◌⊎◌, ℕ, List, [], ◌∷◌, tr
 use Rattle.std.specs.Io.BufRead.{DropsThrough, take_through}
 use Rattle.std.specs.Io.KnownBytes.{IsAtEnd}
 use Rattle.teco_io.specs.Terminal.{IsFrontOf, Screen, Shows}
-use Rattle.teco_debugger.specs.Verb.{command_of}
-use Rattle.teco_debugger.specs.Answering.{IsAnswerTo, is_leaving}
+use Rattle.teco_debugger.specs.Commands.{IsAnswerTo, command_of, is_leaving}
 use Rattle.teco_debugger.specs.Moving.{SameRun}
 use Rattle.teco_debugger.specs.declared.debugger.Debugger.{Debugger}
 use Rattle.teco_debugger.specs.declared.ending.Ending.{Ending}

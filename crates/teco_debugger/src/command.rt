@@ -1,7 +1,7 @@
 //! The commands, a line each.
 ghost use Rattle.std.specs.List.{prefix_len, suffix_len};
 ghost use Rattle.std.specs.Prelude.{◌≡◌, ℕ, ◌≤◌, length, not, Result, Some};
-ghost use Rattle.teco_debugger.specs.Verb.{break_at, colon_in, command_in, command_of, find, given, is_blank, part_in, register_in, spot_in, without_blanks_after, without_blanks_before, words_of};
+ghost use Rattle.teco_debugger.specs.Commands.{break_at, colon_in, command_in, command_of, find, given, is_blank, part_in, register_in, spot_in, without_blanks_after, without_blanks_before, words_of};
 
 use crate::number::number_in;
 use crate::part::Part;

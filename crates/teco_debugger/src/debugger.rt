@@ -1,10 +1,9 @@
 //! The commands, done by a walk.
 ghost use Rattle.std.specs.Prelude.{◌≡◌, ◌+◌, ◌++◌, [], IfNone, IfOk, IfSome, None, Ok, OnOk, slice_get};
 ghost use Rattle.std.specs.String.{string_bytes};
-ghost use Rattle.teco_debugger.specs.Answering.{IsAnswerTo, AnswersCommand, AnswersCounted, AnswersPlain, GoesOnToStop, GoesOrSays, ShowsSeen, TakesBack, answer_line};
+ghost use Rattle.teco_debugger.specs.Commands.{IsAnswerTo, AnswersCommand, AnswersCounted, AnswersPlain, GoesOnToStop, GoesOrSays, ShowsSeen, TakesBack, answer_line, command_of, words_of};
 ghost use Rattle.teco_debugger.specs.Moving.{Arrives, HasNoStop, IsNextStop, MovesTo, SameRun};
 ghost use Rattle.teco_messages.specs.Spelling.{spelled};
-ghost use Rattle.teco_debugger.specs.Verb.{command_of, words_of};
 
 use crate::help::{show_help, verb_rows};
 use crate::listing::{show_register, show_registers, show_state, show_text};

@@ -2,7 +2,7 @@
 ghost use Rattle.std.specs.Prelude.{◌≡◌, ◌++◌, OnOk, map};
 ghost use Rattle.std.specs.String.{string_bytes};
 ghost use Rattle.teco_debugger.specs.Help.{help_shown, verb_line};
-ghost use Rattle.teco_debugger.specs.Verb.{verb_by, verbs};
+ghost use Rattle.teco_debugger.specs.Commands.{verb_by, verbs};
 
 use crate::showing::push_many;
 use crate::{VERBS, VerbRow};

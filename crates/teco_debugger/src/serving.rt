@@ -1,8 +1,7 @@
 //! The commands, served over a walk.
 ghost use Rattle.std.specs.Prelude.{◌≡◌, ◌⊎◌};
-ghost use Rattle.teco_debugger.specs.Answering.{is_leaving};
+ghost use Rattle.teco_debugger.specs.Commands.{is_leaving, command_of};
 ghost use Rattle.teco_debugger.specs.Serving.{EndsUnread, Obeys, ServesLines, ServesNext, stage};
-ghost use Rattle.teco_debugger.specs.Verb.{command_of};
 
 use crate::debugger::Debugger;
 use crate::ending::Ending;

@@ -1,6 +1,6 @@
 //! The table of commands.
 ghost use Rattle.std.specs.Prelude.{◌≡◌, map};
-ghost use Rattle.teco_debugger.specs.Verb.{taken, verb_by, verbs};
+ghost use Rattle.teco_debugger.specs.Commands.{taken, verb_by, verbs};
 
 /// A command that takes nothing.
 #[derive(Clone, Copy)]

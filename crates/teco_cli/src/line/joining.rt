@@ -4,7 +4,7 @@ ghost use Rattle.std.specs.Prelude.{[], ◌∷◌, ◌++◌, ◌≡◌, ◌||◌
 ghost use Rattle.std.specs.Str.{bytes_eq};
 ghost use Rattle.std.specs.String.{string_bytes};
 ghost use Rattle.teco_cli.specs.Joining.{begins_with_hyphen as begins, joined as joined_words, is_long as has_name, is_short as has_letter, is_joined as makes_one, wants_value, with_value as one_word};
-ghost use Rattle.teco_cli.specs.OptionRules.{option_rules};
+ghost use Rattle.teco_cli.specs.Options.{option_rules};
 ghost use Rattle.teco_cli.specs.OptionTable.{rule_by};
 
 use super::table::options;

@@ -2,7 +2,8 @@ use Rattle.std.proofs.Common.{◌∙◌, sym, ap, [], unwrap_or}
 use Rattle.std.proofs.lemmas.Result.{IfErr-weaker, IfOk-weaker}
 use Rattle.clap.proofs.WalkLemmas.{first_value-rows, raw_values-rows}
 use Rattle.clap.specs.Words.{found_of, rows_of}
-use Rattle.teco_cli.specs.CommandLine.{IsCommands, IsCommandsFault}
+use Rattle.teco_cli.specs.CommandLine.{IsCommandsFault}
+use Rattle.teco_cli.specs.Options.{IsCommands}
 use Rattle.teco_cli.proofs.CommandLines.{by_rows, commands_fault_is}
 use Rattle.teco_cli.proofs.line.commands_in.Goals as goal
 

@@ -1,7 +1,8 @@
 use Rattle.std.specs.Prelude.{IfSome, ◌≤◌}
 use Rattle.std.proofs.lemmas.Result.{IfErr-weaker}
 use Rattle.clap.specs.Words.{found_of, rows_of}
-use Rattle.teco_cli.specs.CommandLine.{HasLine, IsDepth, IsPageLength, IsTime}
+use Rattle.teco_cli.specs.CommandLine.{IsDepth, IsPageLength, IsTime}
+use Rattle.teco_cli.specs.Options.{HasLine}
 use Rattle.teco_cli.proofs.CommandLines.{misfit_is, same_line}
 use Rattle.teco_cli.proofs.line.fitting_line_in.Goals as goal
 

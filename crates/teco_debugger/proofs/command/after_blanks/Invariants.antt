@@ -1,6 +1,6 @@
 use Rattle.std.proofs.Common.{◌≡◌, ◌+◌, ◌-◌, ◌≤◌, length, drop}
 use Rattle.std.specs.List.{prefix_len}
-use Rattle.teco_debugger.specs.Verb.{is_blank}
+use Rattle.teco_debugger.specs.Commands.{is_blank}
 use Rattle.teco_debugger.proofs.command.after_blanks.Given as goal
 
 abbrev pub invariant-loop-start : goal.invariant-loop-start

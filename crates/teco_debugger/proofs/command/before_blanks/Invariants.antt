@@ -1,6 +1,6 @@
 use Rattle.std.proofs.Common.{◌≡◌, ◌+◌, ◌≤◌, length, take}
 use Rattle.std.specs.List.{suffix_len}
-use Rattle.teco_debugger.specs.Verb.{is_blank}
+use Rattle.teco_debugger.specs.Commands.{is_blank}
 use Rattle.teco_debugger.proofs.command.before_blanks.Given as goal
 
 abbrev pub invariant-loop-end : goal.invariant-loop-end

@@ -1,5 +1,5 @@
 use Rattle.std.proofs.Common.{◌≡◌, ◌+◌, ◌-◌, ◌≤◌, length, drop}
-use Rattle.teco_debugger.specs.Verb.{colon_in}
+use Rattle.teco_debugger.specs.Commands.{colon_in}
 use Rattle.teco_debugger.proofs.command.colon.Given as goal
 
 abbrev pub invariant-loop-at : goal.invariant-loop-at

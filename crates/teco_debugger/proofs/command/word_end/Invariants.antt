@@ -1,7 +1,7 @@
 use Rattle.std.proofs.Common.{◌≡◌, ◌+◌, ◌-◌, ◌≤◌, length, drop}
 use Rattle.std.specs.Prelude.{not}
 use Rattle.std.specs.List.{prefix_len}
-use Rattle.teco_debugger.specs.Verb.{is_blank}
+use Rattle.teco_debugger.specs.Commands.{is_blank}
 use Rattle.teco_debugger.proofs.command.word_end.Given as goal
 
 abbrev pub invariant-loop-end : goal.invariant-loop-end

@@ -1,5 +1,5 @@
 use Rattle.std.proofs.Common.{◌≡◌, drop, map}
-use Rattle.teco_debugger.specs.Verb.{taken, verb_by}
+use Rattle.teco_debugger.specs.Commands.{taken, verb_by}
 use Rattle.teco_debugger.proofs.verb.taken_by.Given as goal
 
 -- no row so far is spelled so

@@ -3,7 +3,7 @@ use Rattle.std.specs.List.{list_any}
 use Rattle.clap.proofs.WalkLemmas.{list_any-map}
 use Rattle.teco_cli.specs.CommandLine.{input_rule, more_rule}
 use Rattle.teco_cli.specs.Joining.{wants_value}
-use Rattle.teco_cli.specs.OptionRules.{option_rules}
+use Rattle.teco_cli.specs.Options.{option_rules}
 use Rattle.teco_cli.specs.OptionTable.{rule_by}
 use Rattle.teco_cli.proofs.Joinings.{any_front}
 use Rattle.teco_cli.proofs.line.joining.is_awaiting.Goals as goal

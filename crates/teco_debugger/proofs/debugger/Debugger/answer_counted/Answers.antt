@@ -2,7 +2,7 @@ use Rattle.std.proofs.Common.{◌∙◌, ◌+◌, ◌-◌, ℕ, ap, min, subst, 
 use Rattle.std.specs.Prelude.{OnOk}
 use Rattle.std.specs.String.{string_bytes}
 use Rattle.teco_debugger.specs.declared.verb.Counted.{Counted}
-use Rattle.teco_debugger.specs.Answering.{AnswersCounted}
+use Rattle.teco_debugger.specs.Commands.{AnswersCounted}
 use Rattle.teco_debugger.specs.Moving.{MovesTo}
 use Rattle.teco_debugger.proofs.debugger.Debugger.answer_counted.Goals as goal
 

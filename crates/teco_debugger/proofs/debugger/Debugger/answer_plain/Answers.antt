@@ -4,7 +4,7 @@ use Rattle.std.specs.Prelude.{OnOk}
 use Rattle.std.specs.String.{string_bytes}
 use Rattle.teco_messages.specs.Spelling.{spelled}
 use Rattle.teco_debugger.specs.declared.verb.Plain.{Plain}
-use Rattle.teco_debugger.specs.Answering.{AnswersPlain, answer_line}
+use Rattle.teco_debugger.specs.Commands.{AnswersPlain, answer_line}
 use Rattle.teco_debugger.specs.Showing.{where_shown}
 use Rattle.teco_debugger.proofs.Answered.{shows_help}
 use Rattle.teco_debugger.proofs.debugger.Debugger.answer_plain.Goals as goal

@@ -1,7 +1,7 @@
 use Rattle.std.proofs.Common.{ℕ, Option, subst, sym}
 use Rattle.std.specs.Prelude.{OnOk}
 use Rattle.std.specs.String.{string_bytes}
-use Rattle.teco_debugger.specs.Answering.{GoesOrSays}
+use Rattle.teco_debugger.specs.Commands.{GoesOrSays}
 use Rattle.teco_debugger.proofs.Answered.{only_shows}
 use Rattle.teco_debugger.proofs.debugger.Debugger.go_or_say.Goals as goal
 

@@ -2,7 +2,7 @@ use Rattle.std.proofs.Common.{◌∙◌, ◌++◌, ℕ, ap, subst}
 use Rattle.std.proofs.lemmas.Result.{on_ok_weaker}
 use Rattle.std.specs.String.{string_bytes}
 use Rattle.teco_messages.specs.Spelling.{spelled}
-use Rattle.teco_debugger.specs.Answering.{answer_line}
+use Rattle.teco_debugger.specs.Commands.{answer_line}
 use Rattle.teco_debugger.specs.Moving.{IsSeen}
 use Rattle.teco_debugger.proofs.debugger.Debugger.show.Goals as goal
 

@@ -2,7 +2,7 @@ use Rattle.std.proofs.Common.{◌∙◌, ℕ, Option, ap, refl, subst}
 use Rattle.std.proofs.lemmas.Result.{on_ok_weaker}
 use Rattle.std.specs.Prelude.{OnOk}
 use Rattle.std.specs.String.{string_bytes}
-use Rattle.teco_debugger.specs.Answering.{TakesBack}
+use Rattle.teco_debugger.specs.Commands.{TakesBack}
 use Rattle.teco_debugger.proofs.Answered.{arrives_from, only_shows}
 use Rattle.teco_debugger.proofs.debugger.Debugger.take_back.Goals as goal
 

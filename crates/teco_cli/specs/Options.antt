@@ -1,0 +1,89 @@
+-- The options of the program: the parser's rules for them, and what a line has of each.
+use Rattle.std.specs.Prelude.{Bool, ◌||◌, nat_lt, length, map, unwrap_or, IfSome, IsSomeAnd, ◌≡◌, ◌≤◌, List, [], ◌∷◌, Option, Some, None, IsTrue, ◌↔◌, codes, true}
+use Rattle.std.specs.Prelude.{false, option_map, is_some}
+use Rattle.std.specs.List.{count_by}
+use Rattle.std.specs.String.{string_bytes}
+use Rattle.clap.specs.Words.{all_of, IsUnsignedIn, Row, Rule, Text, first_of, one_of}
+use Rattle.teco_core.specs.declared.limits.TheConstants.{DEPTH_LIMIT}
+use Rattle.teco_cli.specs.OptionTable.{flag, with_number, with_text, with_texts}
+use Rattle.teco_cli.specs.Values.{number_of}
+use Rattle.teco_cli.specs.declared.line.Commands.{Commands}
+use Rattle.teco_cli.specs.declared.line.Commands.TheVariants.{StandardInput, Sources, Pages, Bytes}
+use Rattle.teco_cli.specs.declared.line.Line.{Line}
+
+-- the options, each with its letter if it has one
+abbrev pub option_rules : List Rule
+option_rules = with_text (codes "execute") (Some 101)
+    ∷ with_text (codes "pages") (Some 112)
+    ∷ with_texts (codes "file") (Some 102)
+    ∷ with_text (codes "bytes") (Some 98)
+    ∷ with_text (codes "output") (Some 111)
+    ∷ flag (codes "in-place") (Some 105)
+    ∷ flag (codes "check") None
+    ∷ with_number (codes "page-lines") None 1 1000000000 []
+    ∷ with_number (codes "limit") None 0 1000000000000 (codes "1000000" ∷ [])
+    ∷ with_number (codes "seconds") None 1 1000000000000 []
+    ∷ with_number (codes "undo") None 1 DEPTH_LIMIT []
+    ∷ flag (codes "prompt") None
+    ∷ flag (codes "explain") None
+    ∷ []
+
+-- --execute or --file gives a source
+abbrev pub has_sources : Option Text → List Text → Bool
+has_sources word files = is_some word || nat_lt 0 (length files)
+
+-- Where the commands come from, by the texts of --execute, --file, --pages and --bytes: from the sources of the
+-- first two where they give any; else from the one that is given; from standard input where none is.
+abbrev pub IsCommands : Option Text → List Text → Option Text → Option Text → Commands → Type 0
+IsCommands word files pages bytes StandardInput = (has_sources word files ≡ false) × (pages ≡ None) × (bytes ≡ None)
+IsCommands word files pages bytes (Sources names text) = (has_sources word files ≡ true)
+    × (files ≡ map string_bytes names.items) × (word ≡ option_map string_bytes text) × (pages ≡ None) × (bytes ≡ None)
+IsCommands word files pages bytes (Pages text) = (has_sources word files ≡ false)
+    × (pages ≡ Some (string_bytes text)) × (bytes ≡ None)
+IsCommands word files pages bytes (Bytes name) = (has_sources word files ≡ false)
+    × (pages ≡ None) × (bytes ≡ Some (string_bytes name))
+
+-- More than one of them is given: such a line is faulty.
+abbrev pub AreMany : Option Text → List Text → Option Text → Option Text → Type 0
+AreMany word files pages bytes = 2 ≤ count_by (λ given. given) (has_sources word files ∷ is_some pages ∷ is_some bytes ∷ [])
+
+-- A parse says that the commands come from there, and that it gives them more than once.
+abbrev pub SaysCommands : List Row → Commands → Type 0
+SaysCommands rows = IsCommands (first_of (codes "execute") rows) (unwrap_or (all_of (codes "file") rows) [])
+    (first_of (codes "pages") rows) (first_of (codes "bytes") rows)
+
+abbrev pub SaysMany : List Row → Type 0
+SaysMany rows = AreMany (first_of (codes "execute") rows) (unwrap_or (all_of (codes "file") rows) [])
+    (first_of (codes "pages") rows) (first_of (codes "bytes") rows)
+
+-- The line has what a parse gives for each argument. `first_of` is an argument's value as text; `one_of` is
+-- its text where it is read as a number or as a flag.
+pub record HasLine (rows : List Row) (line : Line) : Type 0 where
+  -- the input is there
+  pub input : first_of (codes "input") rows ≡ Some (string_bytes line.input)
+  -- the inputs after it
+  pub more : unwrap_or (all_of (codes "more") rows) [] ≡ map string_bytes line.more.items
+  -- the output, if there is one
+  pub output : first_of (codes "output") rows ≡ option_map string_bytes line.output
+  -- where the commands come from, so that one place of them is given, or none
+  pub commands : SaysCommands rows line.commands
+  -- the limit, which is there: by its default where it is not given
+  pub limit : option_map number_of (one_of (codes "limit") rows) ≡ Some line.limit
+  -- the seconds that a string may run, if they are given
+  pub seconds : option_map number_of (one_of (codes "seconds") rows) ≡ line.seconds
+  pub prompt : IsTrue line.prompt ↔ (one_of (codes "prompt") rows ≡ Some (codes "true"))
+  pub in_place : IsTrue line.in_place ↔ (one_of (codes "in-place") rows ≡ Some (codes "true"))
+  pub check : IsTrue line.check ↔ (one_of (codes "check") rows ≡ Some (codes "true"))
+  pub explain : IsTrue line.explain ↔ (one_of (codes "explain") rows ≡ Some (codes "true"))
+  -- the depth of the history, if one is given
+  pub undo : option_map number_of (one_of (codes "undo") rows) ≡ line.undo
+  -- the line ends after which a page ends, if they are given
+  pub page_lines : option_map number_of (one_of (codes "page-lines") rows) ≡ line.page_lines
+
+-- what every parse gives
+pub record IsGiven (rows : List Row) : Type 0 where
+  pub input : is_some (first_of (codes "input") rows) ≡ true
+  pub limit : IsSomeAnd (one_of (codes "limit") rows) (IsUnsignedIn 0 1000000000000)
+  pub seconds : IfSome (one_of (codes "seconds") rows) (IsUnsignedIn 1 1000000000000)
+  pub undo : IfSome (one_of (codes "undo") rows) (IsUnsignedIn 1 DEPTH_LIMIT)
+  pub page_lines : IfSome (one_of (codes "page-lines") rows) (IsUnsignedIn 1 1000000000)

@@ -1,0 +1,270 @@
+-- The commands: how each is spelled, what a line asks, what each does, and what is shown of it.
+use Rattle.std.specs.Prelude.{◌≡◌, ◌⊎◌, ℕ, ◌+◌, ◌-◌, min, nat_eq, nat_le, nat_lt, Bool, true, false, ◌||◌, ◌==◌, not, if◌then◌else◌, List, [], ◌∷◌, ◌++◌, length, map, take, drop, slice_get, codes, Option, Some, None, Result, Ok, Err}
+use Rattle.std.specs.List.{prefix_len, suffix_len}
+use Rattle.std.specs.Fmt.{decimal}
+use lib.Pointwise.{pointwise}
+use Rattle.teco_core.specs.Register.{register_of}
+use Rattle.teco_messages.specs.declared.spot.Spot.{Spot}
+use Rattle.teco_messages.specs.Spelling.{spelled}
+use Rattle.teco_debugger.specs.Number.{number_in}
+use Rattle.teco_debugger.specs.Finding.{last_change}
+use Rattle.teco_debugger.specs.Walk.{KeptWalk, meant, state_there}
+use Rattle.teco_debugger.specs.Help.{help_shown}
+use Rattle.teco_debugger.specs.Listing.{lines_there_shown, registers_shown, state_shown, whole_register}
+use Rattle.teco_debugger.specs.Moving.{Arrives, HasNoStop, IsNextStop, IsSeen, MovesTo, SameRun}
+use Rattle.teco_debugger.specs.Showing.{step_shown, where_shown}
+use Rattle.teco_debugger.specs.declared.command.DebuggerCommand.{DebuggerCommand}
+use Rattle.teco_debugger.specs.declared.command.DebuggerCommand.TheVariants as command
+use Rattle.teco_debugger.specs.declared.command.CommandFault.{CommandFault}
+use Rattle.teco_debugger.specs.declared.command.CommandFault.TheVariants.{NoCommand, NoNumber, NoRegister, NoPlace, TooMuch}
+use Rattle.teco_debugger.specs.declared.part.Part.{Part}
+use Rattle.teco_debugger.specs.declared.part.Part.TheVariants as part
+use Rattle.teco_debugger.specs.declared.verb.Takes.{Takes}
+use Rattle.teco_debugger.specs.declared.verb.Takes.TheVariants.{Nothing, Number, NumberOr, Register, Part as ThePart, Spot as TheSpot}
+use Rattle.teco_debugger.specs.declared.verb.Counted.{Counted}
+use Rattle.teco_debugger.specs.declared.verb.Counted.TheVariants as counted
+use Rattle.teco_debugger.specs.declared.verb.Plain.{Plain}
+use Rattle.teco_debugger.specs.declared.verb.Plain.TheVariants as plain
+use Rattle.teco_debugger.specs.declared.verb.VerbRow.{VerbRow}
+use Rattle.teco_debugger.specs.declared.walk.Seen.{Seen}
+use Rattle.teco_debugger.specs.declared.debugger.Debugger.{Debugger}
+use Rattle.teco_debugger.specs.declared.debugger.View.{View}
+use Rattle.teco_debugger.specs.declared.debugger.View.TheVariants.{Step, Where, Typed}
+
+-- a command: its word, the letter that stands for it, and what it takes
+pub record Verb : Type 0 where
+  pub word : List ℕ
+  pub letter : List ℕ
+  pub takes : Takes
+
+abbrev pub named : List ℕ → List ℕ → Takes → Verb
+named word letter takes = record { word = word; letter = letter; takes = takes }
+
+abbrev pub verb_by : VerbRow → Verb
+verb_by row = named row.word.now row.letter.now row.takes
+
+-- the commands; a letter is the first of its word that no word above it has taken
+abbrev pub verbs : List Verb
+verbs = named (codes "next") (codes "n") (NumberOr counted.Next 1)
+    ∷ named (codes "back") (codes "b") (NumberOr counted.Back 1)
+    ∷ named (codes "goto") (codes "g") (Number counted.Goto)
+    ∷ named (codes "end") (codes "e") (Nothing plain.End)
+    ∷ named (codes "start") (codes "s") (Nothing plain.Start)
+    ∷ named (codes "where") (codes "w") (Nothing plain.Where)
+    ∷ named (codes "text") (codes "t") (NumberOr counted.Text 3)
+    ∷ named (codes "register") (codes "r") Register
+    ∷ named (codes "registers") (codes "i") (Nothing plain.Registers)
+    ∷ named (codes "state") (codes "a") (Nothing plain.State)
+    ∷ named (codes "find") (codes "f") ThePart
+    ∷ named (codes "break") (codes "k") TheSpot
+    ∷ named (codes "continue") (codes "c") (Nothing plain.Continue)
+    ∷ named (codes "typed") (codes "y") (Nothing plain.Typed)
+    ∷ named (codes "undo") (codes "u") (NumberOr counted.Undo 1)
+    ∷ named (codes "help") (codes "h") (Nothing plain.Help)
+    ∷ named (codes "quit") (codes "q") (Nothing plain.Quit)
+    ∷ []
+
+-- The bytes are the command's word or its letter.
+abbrev pub is_spelled : List ℕ → Verb → Bool
+is_spelled bytes verb = pointwise nat_eq bytes verb.word || pointwise nat_eq bytes verb.letter
+
+-- what the first command takes that is spelled so
+abbrev pub taken : List Verb → List ℕ → Option Takes
+taken [] bytes = None
+taken (verb ∷ verbs) bytes = if is_spelled bytes verb then Some verb.takes else taken verbs bytes
+
+-- a space, or a control byte
+abbrev pub is_blank : ℕ → Bool
+is_blank b = nat_le b 32
+
+abbrev pub without_blanks_before : List ℕ → List ℕ
+without_blanks_before bytes = drop (prefix_len is_blank bytes) bytes
+
+abbrev pub without_blanks_after : List ℕ → List ℕ
+without_blanks_after bytes = take (length bytes - suffix_len is_blank bytes) bytes
+
+-- the first word of a line, and what comes after it, without the blanks around
+abbrev pub word_in : List ℕ → List ℕ
+word_in bytes = take (prefix_len (λ b. not (is_blank b)) bytes) bytes
+
+abbrev pub after_word : List ℕ → List ℕ
+after_word bytes = without_blanks_before (drop (prefix_len (λ b. not (is_blank b)) bytes) bytes)
+
+-- a number, or one that stands for no bytes
+abbrev pub number_or : ℕ → List ℕ → Result ℕ CommandFault
+number_or otherwise [] = Ok otherwise
+number_or otherwise (b ∷ bytes) = number_in (b ∷ bytes)
+
+-- a command that wants nothing after its word
+abbrev pub alone : DebuggerCommand → List ℕ → Result DebuggerCommand CommandFault
+alone command [] = Ok command
+alone command (b ∷ bytes) = Err TooMuch
+
+-- a command with what its operand is, where it is one
+abbrev pub given : {A B : Type 0} → (A → B) → Result A CommandFault → Result B CommandFault
+given f (Ok x) = Ok (f x)
+given f (Err fault) = Err fault
+
+abbrev pub register_in : List ℕ → Result ℕ CommandFault
+register_in [] = Err NoRegister
+register_in (b ∷ []) = elim (register_of b) [ Some q ↦ Ok q | None ↦ Err NoRegister ]
+register_in (b ∷ c ∷ bytes) = Err NoRegister
+
+-- a register, or the word `text`
+abbrev pub part_in : List ℕ → Result Part CommandFault
+part_in bytes = if pointwise nat_eq bytes (codes "text") then Ok part.Buffer else given part.Register (register_in bytes)
+
+abbrev pub is_colon : ℕ → Bool
+is_colon b = b == 58
+
+abbrev pub colon_in : List ℕ → ℕ
+colon_in bytes = prefix_len (λ b. not (is_colon b)) bytes
+
+abbrev pub spot_from : Result ℕ CommandFault → Result ℕ CommandFault → Result Spot CommandFault
+spot_from (Ok line) (Ok column) = Ok (record { line = line; column = column })
+spot_from (Ok line) (Err fault) = Err NoPlace
+spot_from (Err fault) column = Err NoPlace
+
+-- two numbers with a colon between them
+abbrev pub spot_in : List ℕ → Result Spot CommandFault
+spot_in bytes =
+    if nat_lt (colon_in bytes) (length bytes)
+    then spot_from (number_in (take (colon_in bytes) bytes)) (number_in (drop (colon_in bytes + 1) bytes))
+    else Err NoPlace
+
+abbrev pub find : Part → DebuggerCommand
+find part = command.Find part
+
+abbrev pub break_at : Spot → DebuggerCommand
+break_at spot = command.Break spot
+
+-- the command that takes this, with these bytes after its word
+abbrev pub command_in : Takes → List ℕ → Result DebuggerCommand CommandFault
+command_in (Nothing plain) bytes = alone (command.Plain plain) bytes
+command_in (Number counted) bytes = given (command.Counted counted) (number_in bytes)
+command_in (NumberOr counted otherwise) bytes = given (command.Counted counted) (number_or otherwise bytes)
+command_in Register bytes = given command.Register (register_in bytes)
+command_in ThePart bytes = given find (part_in bytes)
+command_in TheSpot bytes = given break_at (spot_in bytes)
+
+abbrev pub command_by : Option Takes → List ℕ → Result DebuggerCommand CommandFault
+command_by (Some takes) bytes = command_in takes bytes
+command_by None bytes = Err NoCommand
+
+-- what a line asks: its first word tells the command, and what comes after it is the operand
+abbrev pub command_of : List ℕ → Result DebuggerCommand CommandFault
+command_of line =
+    let bytes = without_blanks_before (without_blanks_after line) in
+    command_by (taken verbs (word_in bytes)) (after_word bytes)
+
+-- what is said of a line that is no command
+abbrev pub words_of : CommandFault → List ℕ
+words_of NoCommand = codes "no such command; help lists them"
+words_of NoNumber = codes "a number is wanted"
+words_of NoRegister = codes "a register is wanted, A to Z or 0 to 9"
+words_of NoPlace = codes "a place is wanted, as LINE:COLUMN"
+words_of TooMuch = codes "nothing is wanted after this command"
+
+-- a line that ends by LF
+abbrev pub answer_line : List ℕ → List ℕ
+answer_line words = words ++ 10 ∷ []
+
+-- This is shown, and nothing changes.
+abbrev pub OnlyShows : List ℕ → Debugger → Debugger → List ℕ → Type 0
+OnlyShows text old new shown = (new ≡ old) × (shown ≡ text)
+
+-- what is shown of where a walk stands
+abbrev pub seen_shown : View → KeptWalk → Seen → List ℕ
+seen_shown Step walk seen = step_shown walk seen
+seen_shown Where walk seen = where_shown walk seen
+seen_shown Typed walk seen = answer_line (spelled seen.typed.items)
+
+-- This is shown of where a walk stands, behind what was shown before.
+abbrev pub ShowsSeen : View → KeptWalk → List ℕ → List ℕ → Type 0
+ShowsSeen view walk old new = (seen : Seen) × IsSeen walk walk.steps seen × (new ≡ old ++ seen_shown view walk seen)
+
+-- Where the walk stands is shown, with all that is open there.
+abbrev pub ShowsWhere : Debugger → Debugger → List ℕ → Type 0
+ShowsWhere old new shown = (new ≡ old)
+    × ((seen : Seen) × IsSeen old.walk old.walk.steps seen × (shown ≡ where_shown old.walk seen))
+
+-- A line for each command is shown, in their order, with its word and its letter.
+abbrev pub ShowsHelp : Debugger → Debugger → List ℕ → Type 0
+ShowsHelp old new shown = (new ≡ old)
+    × ((rows : List VerbRow) × (map verb_by rows ≡ verbs) × (shown ≡ help_shown rows))
+
+-- It goes to a step as a move that can be taken back, if there is such a step; else it says why there is none.
+abbrev pub GoesOrSays : Option ℕ → List ℕ → Debugger → Debugger → List ℕ → Type 0
+GoesOrSays (Some n) words old new shown = MovesTo n old new shown
+GoesOrSays None words old new shown = OnlyShows (answer_line words) old new shown
+
+-- It goes on to the next step at the place to stop at, if one is noted and such a step comes.
+abbrev pub GoesOnToStop : Option Spot → Debugger → Debugger → List ℕ → Type 0
+GoesOnToStop None old new shown = OnlyShows (answer_line (codes "no place to stop at is noted")) old new shown
+GoesOnToStop (Some stop) old new shown =
+    ((n : ℕ) × IsNextStop old.walk stop (old.walk.steps + 1) n × MovesTo n old new shown)
+    ⊎ (HasNoStop old.walk stop (old.walk.steps + 1) old.limit
+    × OnlyShows (answer_line (codes "no step at that place comes, or it is too far")) old new shown)
+
+-- It goes back to before the last change of a part, if one was made.
+abbrev pub FindsChange : Option ℕ → Debugger → Debugger → List ℕ → Type 0
+FindsChange to old new shown = GoesOrSays to (codes "no step before this one changed it") old new shown
+
+-- Some moves are taken back: it goes to where the walk stood before the first of them, if there was a move.
+abbrev pub TakesBack : ℕ → Option ℕ → Debugger → Debugger → List ℕ → Type 0
+TakesBack left (Some n) old new shown =
+    Arrives n old new shown × (new.moves.items ≡ take left old.moves.items)
+TakesBack left None old new shown = OnlyShows (answer_line (codes "no move to take back")) old new shown
+
+-- how many moves are left if the last n are taken back
+abbrev pub moves_left : ℕ → List ℕ → ℕ
+moves_left n moves = length moves - n
+
+-- the commands that take nothing
+abbrev pub AnswersPlain : Plain → Debugger → Debugger → List ℕ → Type 0
+AnswersPlain plain.End old new shown = MovesTo old.limit old new shown
+AnswersPlain plain.Start old new shown = MovesTo 0 old new shown
+AnswersPlain plain.Where old new shown = ShowsWhere old new shown
+AnswersPlain plain.Registers old new shown =
+    OnlyShows (registers_shown (state_there old.walk).registers) old new shown
+AnswersPlain plain.State old new shown = OnlyShows (state_shown (state_there old.walk)) old new shown
+AnswersPlain plain.Continue old new shown = GoesOnToStop old.stop old new shown
+-- all that the string typed so far
+AnswersPlain plain.Typed old new shown =
+    OnlyShows (answer_line (spelled (meant old.walk.input old.walk.text old.walk.steps).typed)) old new shown
+AnswersPlain plain.Help old new shown = ShowsHelp old new shown
+AnswersPlain plain.Quit old new shown = OnlyShows [] old new shown
+
+-- the commands that take a number
+abbrev pub AnswersCounted : Counted → ℕ → Debugger → Debugger → List ℕ → Type 0
+AnswersCounted counted.Next n old new shown = MovesTo (min (old.walk.steps + n) old.limit) old new shown
+AnswersCounted counted.Back n old new shown = MovesTo (old.walk.steps - n) old new shown
+AnswersCounted counted.Goto n old new shown = MovesTo (min n old.limit) old new shown
+AnswersCounted counted.Text n old new shown = OnlyShows (lines_there_shown (state_there old.walk) n) old new shown
+AnswersCounted counted.Undo n old new shown = TakesBack (moves_left n old.moves.items)
+    (slice_get old.moves.items (moves_left n old.moves.items)) old new shown
+
+-- what a command does, and what is shown of it
+abbrev pub AnswersCommand : DebuggerCommand → Debugger → Debugger → List ℕ → Type 0
+AnswersCommand (command.Plain plain) old new shown = AnswersPlain plain old new shown
+AnswersCommand (command.Counted counted n) old new shown = AnswersCounted counted n old new shown
+AnswersCommand (command.Register q) old new shown =
+    OnlyShows (whole_register (state_there old.walk).registers q) old new shown
+AnswersCommand (command.Find part) old new shown = FindsChange (last_change part old.walk.changes) old new shown
+-- the place is noted, and nothing is shown
+AnswersCommand (command.Break spot) old new shown = (new ≡ record old { stop = Some spot }) × (shown ≡ [])
+
+-- Memory was refused to the command. That alone is shown, with the step at which the walk then stands.
+pub record TellsNoMemory (old new : Debugger) (shown : List ℕ) : Type 0 where
+  pub same : SameRun old new
+  pub shown_is : shown ≡ answer_line (codes "no memory; the walk stands at step " ++ decimal new.walk.steps)
+
+-- The answer to a line: that of its command, or why it is none.
+abbrev pub IsAnswerTo : Result DebuggerCommand CommandFault → Debugger → Debugger → List ℕ → Type 0
+IsAnswerTo (Ok command) old new shown = AnswersCommand command old new shown ⊎ TellsNoMemory old new shown
+IsAnswerTo (Err fault) old new shown = OnlyShows (answer_line (words_of fault)) old new shown
+
+-- the line asks to leave
+abbrev pub is_leaving : Result DebuggerCommand CommandFault → Bool
+is_leaving (Ok (command.Plain plain.Quit)) = true
+is_leaving _ = false
