@@ -1,22 +1,23 @@
 -- Lemmas on one exchange.
-use Rattle.std.proofs.Common.{◌≡◌, ℕ, suc, ◌+◌, ◌-◌, ◌<◌, List, [], ◌∷◌, ◌++◌, Bool, true, false, ◌&&◌, not, if◌then◌else◌, Option, Some, None, refl, sym, ap, ◌∙◌, arith, subst, append-nil, append_assoc, inl, inr, true≢false}
-use Rattle.std.specs.Prelude.{◌≢◌, ◌≤◌, ◌⊎◌, IsSomeAnd}
+use Rattle.std.proofs.Common.{◌≡◌, ℕ, suc, ◌+◌, ◌-◌, ◌<◌, List, [], ◌∷◌, ◌++◌, Bool, true, false, ◌&&◌, not, if◌then◌else◌, Option, Some, None, Result, refl, sym, ap, ◌∙◌, arith, subst, append-nil, append_assoc, inl, inr, true≢false}
+use Rattle.std.specs.Prelude.{◌≢◌, ◌≤◌, ◌⊎◌, IsSomeAnd, OnErr}
 use Rattle.std.specs.Bool.{MatchBool}
 use Rattle.teco_core.specs.declared.code.Code.{Code}
 use Rattle.teco_core.specs.declared.code.Code.TheVariants.{Tty}
+use Rattle.teco_io.specs.Terminal.{Puts, Screen, Shows}
 use Rattle.teco_exec.specs.Runs.{Answers, IsBrokenOff, StillSays}
 use Rattle.teco_exec.specs.declared.outcome.Outcome.{Outcome}
-use Rattle.teco_session.specs.Answers.{answer_code, is_refused}
+use Rattle.teco_session.specs.Answers.{answer_code, is_refused, string_outcome}
 use Rattle.teco_session.specs.History.{History, present}
-use Rattle.teco_session.specs.Step.{Step, UndoStep, RedoStep, RewindStep, Reply, is_terminal_failure}
+use Rattle.teco_session.specs.Step.{Step, RunStep, UndoStep, RedoStep, RewindStep, Reply, is_terminal_failure}
 use Rattle.teco_session.specs.declared.request.Answer.{Answer}
 use Rattle.teco_session.specs.declared.request.Answer.TheVariants.{Ended, NotBegun, AfterExit, Undone, NothingToUndo, Redone, NothingToRedo, Rewound}
 use Rattle.teco_session.specs.declared.request.Request.{Request}
 use Rattle.teco_session.specs.declared.request.Request.TheVariants as request
 use Rattle.teco_serve.specs.Alarm.{IsSet}
-use Rattle.teco_serve.specs.Exchange.{Exchange, HasRung, MovesInHistory, Repeats, RunsAllowed, allowance, exchange_shown, exits, is_exit}
+use Rattle.teco_serve.specs.Exchange.{Allowance, Does, Exchange, HasRung, MovesInHistory, Repeats, RunsAllowed, allowance, exchange_shown, exits, is_exit}
 use Rattle.teco_serve.specs.Message.{lines_of, message, replies_shown, star}
-use Rattle.teco_scan.specs.Stream.{is_run}
+use Rattle.teco_scan.specs.Stream.{Asks, is_run}
 use Rattle.teco_scan.specs.Stream.Asks.{Run}
 use Rattle.teco_serve.specs.declared.alarm.Bounds.{Bounds}
 use Rattle.teco_serve.proofs.Showing.{some-left, some-right}
@@ -34,6 +35,21 @@ runs_allowed answered before after bounds seconds outcome RanUnder under some st
   code = b.code;
   ran = subst RanUnder b.steps ran;
 })
+
+-- A string ran as it is allowed, and what it typed is shown. One that made the session done was answered by no code.
+pub record HasRun (allowed : Allowance) (text : List ℕ) (old new : History) (before after : Screen) (answer : Answer) : Type 0 where
+  pub typed : List ℕ
+  pub ran : RunsAllowed allowed (string_outcome answer) (λ limit. RunStep limit old text answer typed new)
+  pub shows : Shows before after typed (is_terminal_failure answer)
+  pub exit : (present old).is_done ≡ false → (present new).is_done ≡ true → answer_code answer ≡ None
+
+-- What was asked is done, and what is shown of the replies. Where that is broken off there was some, and no exit.
+pub record IsDone {A E : Type 0} (allowed : Allowance) (asked : Asks) (old new : History) (before after : Screen) (shown : Result A E) : Type 0 where
+  pub replies : List Reply
+  pub does : Does allowed asked old replies new
+  pub puts : Puts before after (replies_shown replies) shown
+  pub some : OnErr shown (replies_shown replies ≢ [])
+  pub no_exit : OnErr shown (is_exit asked old new ≡ false)
 
 -- An undo, a redo or a rewind types nothing; it has a message only where it is refused.
 pub record IsQuiet (answer : Answer) (typed : List ℕ) : Type 0 where

@@ -145,36 +145,7 @@ fn run_placed<S: Stop, T: Terminal>(
     }
 }
 
-/// Runs a text. With seconds the alarm is set, and may break it off. Tells where its run last stood where that is wanted.
-fn run_heard<A: Alarm, T: Terminal>(
-    text: &[u8],
-    session: &mut Session,
-    bounds: Bounds,
-    alarm: &mut A,
-    term: &mut T,
-    wants_place: bool,
-) -> Answered
-    ensures step { (typed : List ℕ)
-        × RunsAllowed (allowance bounds (HasRung A.answered)) (string_outcome result.answer)
-        (λ limit. RunStep limit (history_of session.old) text.now result.answer typed (history_of session.new))
-        × Shows (T.screen term.old) (T.screen term.new) typed (is_terminal_failure result.answer) }
-    ensures exit { (present (history_of session.old)).is_done ≡ false
-        → (present (history_of session.new)).is_done ≡ true → answer_code result.answer ≡ None }
-{
-    if let Some(seconds) = bounds.seconds {
-        alarm.set(seconds);
-        return run_placed(text, session, bounds.steps, alarm, term);
-    }
-    if wants_place {
-        return run_placed(text, session, bounds.steps, &mut Never, term);
-    }
-    Answered {
-        answer: session.run(text, bounds.steps, term),
-        place: Ok(None),
-    }
-}
-
-/// Runs a text, and shows the message of the answer.
+/// Runs a text, and shows the message of the answer. With seconds the alarm is set, and may break it off.
 fn run_text<A: Alarm, T: Terminal, L: Listens>(
     text: &[u8],
     session: &mut Session,
@@ -190,44 +161,21 @@ fn run_text<A: Alarm, T: Terminal, L: Listens>(
     ensures err { OnErr result
         (is_exit (Run text.now) (history_of session.old) (history_of session.new) ≡ false) }
 {
-    let wants_place = listener.wants_place();
-    let answered = run_heard(text, session, bounds, alarm, term, wants_place);
+    let answered = if let Some(seconds) = bounds.seconds {
+        alarm.set(seconds);
+        run_placed(text, session, bounds.steps, alarm, term)
+    } else if listener.wants_place() {
+        run_placed(text, session, bounds.steps, &mut Never, term)
+    } else {
+        Answered {
+            answer: session.run(text, bounds.steps, term),
+            place: Ok(None),
+        }
+    };
     if answered.answer.is_terminal_failure() {
         return Err(TerminalFault);
     }
     show_ending(text, &answered, session, term, listener)
-}
-
-/// Does what a text asks, and shows the messages of the answers. No put follows one that failed. Where a run made the session done,
-/// none fails.
-fn do_asked<A: Alarm, T: Terminal, L: Listens>(
-    asked: &Asked,
-    session: &mut Session,
-    bounds: Bounds,
-    alarm: &mut A,
-    term: &mut T,
-    listener: &mut L,
-) -> Result<(), TerminalFault>
-    ensures done { (replies : List Reply)
-        × Does (allowance bounds (HasRung A.answered)) (value_of asked.now) (history_of session.old) replies (history_of session.new)
-        × Puts (T.screen term.old) (T.screen term.new) (replies_shown replies) result
-        × OnErr result (replies_shown replies ≢ []) }
-    ensures err { OnErr result
-        (is_exit (value_of asked.now) (history_of session.old) (history_of session.new) ≡ false) }
-{
-    match asked {
-        Asked::Run(text) => run_text(text.as_slice(), session, bounds, alarm, term, listener),
-        Asked::Undo(n) => repeat(&Request::Undo, *n, session, bounds.steps, term, listener),
-        Asked::Redo(n) => repeat(&Request::Redo, *n, session, bounds.steps, term, listener),
-        Asked::Rewind(n) => repeat(
-            &Request::Rewind(u64::from(*n)),
-            1,
-            session,
-            bounds.steps,
-            term,
-            listener,
-        ),
-    }
 }
 
 /// Whether it was a run that made the session done.
@@ -253,7 +201,21 @@ pub fn do_exchange<A: Alarm, T: Terminal, L: Listens>(
         × ExchangeEnds (Shows (T.screen term.old) (T.screen term.new)) settings.prompt exchange result }
 {
     let was_done = session.editor().done();
-    if let Err(TerminalFault) = do_asked(asked, session, settings.bounds, alarm, term, listener) {
+    let bounds = settings.bounds;
+    let shown = match asked {
+        Asked::Run(text) => run_text(text.as_slice(), session, bounds, alarm, term, listener),
+        Asked::Undo(n) => repeat(&Request::Undo, *n, session, bounds.steps, term, listener),
+        Asked::Redo(n) => repeat(&Request::Redo, *n, session, bounds.steps, term, listener),
+        Asked::Rewind(n) => repeat(
+            &Request::Rewind(u64::from(*n)),
+            1,
+            session,
+            bounds.steps,
+            term,
+            listener,
+        ),
+    };
+    if let Err(TerminalFault) = shown {
         return Some(Served::ShowFault);
     }
     if exits(asked, was_done, session.editor().done()) {

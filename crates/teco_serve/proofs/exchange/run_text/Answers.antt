@@ -1,38 +1,70 @@
-use Rattle.std.proofs.Common.{◌≡◌, [], ◌∷◌, ◌++◌, true, false, refl, sym, ◌∙◌, subst, append-nil}
+use Rattle.std.proofs.Common.{◌≡◌, [], ◌∷◌, ◌++◌, Some, true, false, inl, refl, rules, sym, ◌∙◌, subst, append-nil}
+use Rattle.teco_session.specs.Answers.{string_outcome}
 use Rattle.teco_session.specs.Kept.{history_of}
+use Rattle.teco_session.specs.Step.{Reply, RunStep, is_terminal_failure}
+use Rattle.teco_session.proofs.Running.{unbroken}
 use Rattle.teco_io.specs.Terminal.{Shows, Puts}
-use Rattle.teco_session.specs.Step.{Reply, is_terminal_failure}
+use Rattle.teco_serve.specs.Exchange.{HasRung, allowance}
 use Rattle.teco_serve.specs.Message.{message}
 use Rattle.teco_serve.proofs.Showing.{OnErr-weaker, Puts-after}
-use Rattle.teco_serve.proofs.Exchanges.{failure-some, message-no_exit, message-some}
+use Rattle.teco_serve.proofs.Exchanges.{HasRun, failure-some, message-no_exit, message-some, runs_allowed}
+use Rattle.teco_serve.proofs.exchange.run_text.Given as given
 use Rattle.teco_serve.proofs.exchange.run_text.Goals as goal
+use Rattle.teco_serve.proofs.exchange.run_text.Goals.{Joined-bounds, in-Some, in_default+then-wants_place, in_default+else-wants_place}
+
+ran : (g : given.Over) (c : Joined-bounds g)
+    → HasRun (allowance c.args.bounds (HasRung g.A.Stop.answered)) c.args.text.now (history_of c.args.session.now) (history_of c.match-bounds.session)
+    (g.T.Terminal.screen c.args.term.now) (g.T.Terminal.screen c.match-bounds.term) c.match-bounds.answered.answer
+ran g c = elim c.match-bounds.branch [
+  | in-Some w ↦
+      let run = w.run_placed-answered.ensures.run in
+      let step = run.so.step in
+      let some : c.args.bounds.seconds ≡ Some w.in-Some.seconds = search rules in
+      let answer = w.run_placed-answered.result.answer in
+      rw (w.session-is, w.term-is, w.answered-is) (record {
+        typed = step.0;
+        ran = runs_allowed g.A.Stop.answered _ w.run_placed-answered.new.stop c.args.bounds w.in-Some.seconds (string_outcome answer)
+            (λ limit. RunStep limit (history_of c.args.session.now) c.args.text.now answer step.0 (history_of w.run_placed-answered.new.session))
+            run.under some w.run_placed-answered.ensures.still (record { span = search rules; fresh = search rules }) run.within run.stays step.1;
+        shows = step.2;
+        exit = run.so.exit;
+      })
+  | in_default+then-wants_place w ↦
+      let run = unbroken c.args.bounds.steps _ _ w.run_placed.ensures.run in
+      rw (w.session-is, w.term-is, w.answered-is) (record { typed = run.step.0; ran = inl run.step.1; shows = run.step.2; exit = run.exit })
+  | in_default+else-wants_place w ↦
+      let run = w.run.ensures in
+      rw (w.session-is, w.term-is, w.answered-is) (record { typed = run.step.0; ran = inl run.step.1; shows = run.step.2; exit = run.exit })
+]
 
 pub returns-then-is_terminal_failure : goal.returns-then-is_terminal_failure
 returns-then-is_terminal_failure g c =
-    let ran = c.run_heard-answered.ensures.step in
-    let reply : Reply = record { answer = c.run_heard-answered.result.answer; typed = ran.0 } in
+    let run = ran g (goal.at.returns-then-is_terminal_failure g c).Joined-bounds in
+    let reply : Reply = record { answer = c.match-bounds.answered.answer; typed = run.typed } in
     let failed : is_terminal_failure reply.answer ≡ true = sym c.is_terminal_failure.ensures ∙ c.if-is_terminal_failure.true in
     record {
       done = (
         reply ∷ [],
-        (reply, refl, ran.1),
-        (ran.0, (message reply.answer, append-nil (ran.0 ++ message reply.answer)), subst (λ b. Shows (g.T.Terminal.screen c.args.term.now) (g.T.Terminal.screen c.run_heard-answered.new.term) ran.0 b) failed ran.2),
+        (reply, refl, run.ran),
+        (run.typed, (message reply.answer, append-nil (run.typed ++ message reply.answer)), subst (λ b. Shows (g.T.Terminal.screen c.args.term.now) (g.T.Terminal.screen c.match-bounds.term) run.typed b) failed run.shows),
         message-some reply (failure-some reply.answer failed),
       );
-      err = message-no_exit c.args.text.now (history_of c.args.session.now) (history_of c.run_heard-answered.new.session) reply.answer (failure-some reply.answer failed) c.run_heard-answered.ensures.exit;
+      err = message-no_exit c.args.text.now (history_of c.args.session.now) (history_of c.match-bounds.session) reply.answer (failure-some reply.answer failed) run.exit;
     }
 
 pub returns : goal.returns
-returns g c = record {
-  done = let ran = c.run_heard-answered.ensures.step in
-      let reply : Reply = record { answer = c.run_heard-answered.result.answer; typed = ran.0 } in
-      let well : is_terminal_failure reply.answer ≡ false = sym c.is_terminal_failure.ensures ∙ c.if-is_terminal_failure.false in (
+returns g c =
+    let run = ran g (goal.at.returns g c).Joined-bounds in
+    let reply : Reply = record { answer = c.match-bounds.answered.answer; typed = run.typed } in
+    let well : is_terminal_failure reply.answer ≡ false = sym c.is_terminal_failure.ensures ∙ c.if-is_terminal_failure.false in
+    record {
+      done = (
         reply ∷ [],
-        (reply, refl, ran.1),
-        subst (λ l. Puts (g.T.Terminal.screen c.args.term.now) (g.T.Terminal.screen c.show_ending.new.term) l c.show_ending.result) (sym (append-nil (ran.0 ++ message reply.answer)))
+        (reply, refl, run.ran),
+        subst (λ l. Puts (g.T.Terminal.screen c.args.term.now) (g.T.Terminal.screen c.show_ending.new.term) l c.show_ending.result) (sym (append-nil (run.typed ++ message reply.answer)))
             (Puts-after (g.T.Terminal.screen c.show_ending.new.term) (message reply.answer) c.show_ending.result
-            (subst (λ b. Shows (g.T.Terminal.screen c.args.term.now) (g.T.Terminal.screen c.run_heard-answered.new.term) ran.0 b) well ran.2) c.show_ending.ensures.puts),
+            (subst (λ b. Shows (g.T.Terminal.screen c.args.term.now) (g.T.Terminal.screen c.match-bounds.term) run.typed b) well run.shows) c.show_ending.ensures.puts),
         OnErr-weaker c.show_ending.result (message-some reply) c.show_ending.ensures.some,
       );
-  err = OnErr-weaker c.show_ending.result (λ some. message-no_exit c.args.text.now (history_of c.args.session.now) (history_of c.run_heard-answered.new.session) c.run_heard-answered.result.answer some c.run_heard-answered.ensures.exit) c.show_ending.ensures.some;
-}
+      err = OnErr-weaker c.show_ending.result (λ some. message-no_exit c.args.text.now (history_of c.args.session.now) (history_of c.match-bounds.session) reply.answer some run.exit) c.show_ending.ensures.some;
+    }

@@ -1,7 +1,6 @@
 use Rattle.std.proofs.lemmas.Grind.{common_steps}
-use Rattle.std.proofs.Common.{◌≡◌, ◌∙◌, ◌++◌, [], ℕ, List, Result, Ok, Err, String, Global, ap, append-nil, codes, refl, arith}
+use Rattle.std.proofs.Common.{◌∙◌, [], ℕ, List, codes, arith}
 use Rattle.std.specs.Prelude.{◌≢◌}
-use Rattle.std.specs.String.{string_bytes}
 use Rattle.std.proofs.lemmas.Result.{IfOk-from_err}
 use Rattle.teco_fs.specs.Reasons.{with_reason}
 use Rattle.teco_serve.specs.Ending.{commands_name, output_of, said}
