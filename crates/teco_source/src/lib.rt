@@ -13,6 +13,5 @@ mod writer;
 pub use laws::source_laws;
 pub use lines::listing;
 pub use placing::beginnings;
-pub use reader::{Mode, ReaderFault, commands, ends_line};
-pub use words::words_of;
+pub use reader::{Mode, ReaderFault, commands};
 pub use writer::{Note, push_line};

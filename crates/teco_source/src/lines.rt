@@ -5,7 +5,8 @@ ghost use Rattle.teco_source.specs.Listing.{line_mode, between};
 
 use crate::layout::{Layout, ListingLine};
 use crate::notes::push_words;
-use crate::{Mode, Note, ends_line, push_line, source_laws};
+use crate::reader::ends_line;
+use crate::{Mode, Note, push_line, source_laws};
 use std::alloc::Global;
 use teco_core::NoMemory;
 

@@ -96,7 +96,7 @@ fn waiting(mode: Mode) -> usize
 }
 
 /// Whether the last byte of a text is a line end.
-pub fn ends_line(text: &[u8]) -> bool
+pub(crate) fn ends_line(text: &[u8]) -> bool
     ensures { result ≡ ends_line text.now }
 {
     let len = text.len();

@@ -149,7 +149,7 @@ fn item_words(item: Item, colons: u8, has_number: bool) -> &'static str {
 }
 
 /// How a token is written and what it does. It has so many colons, and a number before it or none.
-pub fn words_of(kind: TokenKind, colons: u8, has_number: bool) -> &'static str {
+pub(crate) fn words_of(kind: TokenKind, colons: u8, has_number: bool) -> &'static str {
     match kind {
         TokenKind::Item(item) => item_words(item, colons, has_number),
         TokenKind::Mark(mark) => mark_words(mark),
