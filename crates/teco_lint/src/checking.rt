@@ -7,8 +7,11 @@ ghost use Rattle.teco_lint.specs.Strings.{AreTold, is_faulty, is_faulty_string, 
 
 use crate::calling::{RegisterUses, registers_in};
 use crate::cutting::string_end;
+use crate::faults::push_faults;
+use crate::hinting::{Hinting, push_hints, push_last_hints};
+use crate::listing::push_both;
+use crate::remarks::{Hint, Remark};
 use crate::requests::is_request;
-use crate::{Hint, Hinting, Remark, push_both, push_faults, push_hints, push_last_hints};
 use std::alloc::Global;
 use teco_check::{REGISTERS, fault_of};
 use teco_core::NoMemory;

@@ -88,7 +88,7 @@ fn moved(fault: &FaultIn, from: usize) -> Remark
 }
 
 /// Tells the faults of a command string from the first on. Nothing is promised of those after it but that each comes later.
-pub fn push_faults(
+pub(crate) fn push_faults(
     faults: &mut Vec<Remark>,
     alloc: Global,
     string: &[u8],

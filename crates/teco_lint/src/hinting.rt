@@ -1,11 +1,12 @@
 //! Hints: what may be meant otherwise.
-ghost use Rattle.std.specs.Prelude.{◌<◌, Bool, IfSome, OnOk};
+ghost use Rattle.std.specs.Prelude.{Bool, OnOk};
 ghost use Rattle.teco_lint.specs.Told.{IsTold};
 
 use crate::passing::part;
 use crate::remarks::{Hint, Remark, What};
 use teco_check::REGISTERS;
-use teco_core::NoMemory;
+use teco_core::{NoMemory, Reg};
+use teco_messages::letter;
 use teco_scan::{
     Bare, BlockMark, Command, Found, Item, LevelCommand, RegisterCommand, Span, TextCommand, Token,
     TokenKind, filler_end, token_at,
@@ -13,7 +14,7 @@ use teco_scan::{
 
 /// What has been seen of the commands.
 #[derive(Clone, Copy)]
-pub struct Hinting {
+pub(crate) struct Hinting {
     /// How many iterations are open.
     iterations: usize,
     /// Whether `EX` is the command before in its list, and no jump can have gone past it.
@@ -25,13 +26,13 @@ pub struct Hinting {
     has_exit: bool,
     has_page: bool,
     /// Whether the last pair of ESC has come.
-    pub in_rest: bool,
+    pub(crate) in_rest: bool,
     /// The registers that were told of.
     told: [bool; REGISTERS],
 }
 
 impl Hinting {
-    pub fn new() -> Self {
+    pub(crate) fn new() -> Self {
         Self {
             iterations: 0,
             after_exit: false,
@@ -75,14 +76,13 @@ impl Hinting {
         has_caret(text).then_some(Hint::Caret)
     }
 
-    fn of_call(&mut self, index: usize, given: &[bool; REGISTERS]) -> Option<Hint>
-        requires { index < 36 }
-    {
+    fn of_call(&mut self, register: Reg, given: &[bool; REGISTERS]) -> Option<Hint> {
+        let index = register.index();
         if given[index] || self.told[index] {
             return None;
         }
         self.told[index] = true;
-        Some(Hint::NeverSet(index))
+        Some(Hint::NeverSet(letter(register)))
     }
 
     fn of_item(&mut self, text: &[u8], item: Item) -> Option<Hint> {
@@ -122,9 +122,11 @@ impl Hinting {
             _ => {}
         }
         self.after_exit = false;
-        let hint = match (called(token), token.kind) {
-            (Some(register), _) => self.of_call(register, given),
-            (None, TokenKind::Item(item)) => self.of_item(text, item),
+        let hint = match token.kind {
+            TokenKind::Item(Item::Register(RegisterCommand::Macro, register)) => {
+                self.of_call(register, given)
+            }
+            TokenKind::Item(item) => self.of_item(text, item),
             _ => None,
         };
         if is_after {
@@ -160,18 +162,6 @@ fn is_empty_at_end(text: &[u8], token: &Token) -> bool {
         _ => return false,
     };
     span.from == span.to && token.span.to == text.len()
-}
-
-/// The number of the register that a token calls, if it calls one.
-fn called(token: &Token) -> Option<usize>
-    ensures { IfSome result (λ register. register < 36) }
-{
-    match token.kind {
-        TokenKind::Item(Item::Register(RegisterCommand::Macro, register)) => {
-            Some(register.index())
-        }
-        _ => None,
-    }
 }
 
 /// Whether a text has a caret before a letter, as one who means a control byte writes it.
@@ -212,7 +202,7 @@ fn push_hint(remarks: &mut Vec<Remark>, at: usize, hint: Hint) -> Result<(), NoM
 }
 
 /// Puts the hints of a command string that begins at a place, up to its first fault. `given` says which registers are given a text.
-pub fn push_hints(
+pub(crate) fn push_hints(
     remarks: &mut Vec<Remark>,
     hinting: &mut Hinting,
     text: &[u8],
@@ -236,7 +226,7 @@ pub fn push_hints(
 
 /// Puts the hints on the whole at the end, that on its rest first. Past a fault nothing was looked for, so what lacks is told of no
 /// faulty text.
-pub fn push_last_hints(
+pub(crate) fn push_last_hints(
     remarks: &mut Vec<Remark>,
     hinting: &Hinting,
     commands: &[u8],

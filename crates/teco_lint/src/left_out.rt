@@ -3,7 +3,7 @@ ghost use Rattle.std.specs.Prelude.{◌≡◌, ◌≤◌, length, IfSome};
 
 /// What follows the name of a command that is left out.
 #[derive(Clone, Copy)]
-pub enum Operands {
+pub(crate) enum Operands {
     Nothing,
     Register,
     Text,
@@ -13,14 +13,14 @@ pub enum Operands {
 
 /// A command that is left out.
 #[derive(Clone, Copy)]
-pub struct LeftOut {
+pub(crate) struct LeftOut {
     /// How it is written, with its colons. A caret and a letter are also the control byte.
-    pub written: &'static str,
+    pub(crate) written: &'static str,
     /// What it does in TECO-11.
-    pub does: &'static str,
+    pub(crate) does: &'static str,
     /// What to write in its place.
-    pub instead: &'static str,
-    pub takes: Operands,
+    pub(crate) instead: &'static str,
+    pub(crate) takes: Operands,
 }
 
 macro_rules! rows {
@@ -182,7 +182,7 @@ fn row_as_written(bytes: &[u8]) -> Option<(&'static LeftOut, usize)>
 
 /// The row of the command that the bytes begin with, if it is left out, and the length of its name. Where no row has the colon of a
 /// command, its row is that of the name alone: in TECO-11 most commands take one, and give whether they could.
-pub fn row_of(bytes: &[u8]) -> Option<(&'static LeftOut, usize)>
+pub(crate) fn row_of(bytes: &[u8]) -> Option<(&'static LeftOut, usize)>
     ensures { IfSome result (λ found. found.1 ≤ length bytes.now) }
 {
     if let Some(found) = row_as_written(bytes) {

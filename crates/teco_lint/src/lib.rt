@@ -17,10 +17,6 @@ mod sentences;
 mod spelling;
 
 pub use checking::{Advice, check};
-pub use faults::push_faults;
-pub use hinting::{Hinting, push_hints, push_last_hints};
-pub use left_out::{LeftOut, Operands, row_of};
-pub use listing::{MOST_REMARKS, push_both};
 pub use remarks::{FaultIn, Hint, Remark, What};
 pub use reporting::{report, report_part};
 pub use sentences::show_remark;

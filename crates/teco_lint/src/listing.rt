@@ -7,7 +7,7 @@ use crate::remarks::{Remark, What};
 use teco_core::NoMemory;
 
 /// The most remarks that are told.
-pub const MOST_REMARKS: usize = 1000;
+pub(crate) const MOST_REMARKS: usize = 1000;
 
 /// Puts the remark at the end, unless too many are there.
 fn push_remark(remarks: &mut Vec<Remark>, remark: Remark) -> Result<(), NoMemory>
@@ -43,7 +43,7 @@ fn push_before(
 }
 
 /// Puts two lists of remarks at the end, in the order of their places.
-pub fn push_both(
+pub(crate) fn push_both(
     remarks: &mut Vec<Remark>,
     faults: &[Remark],
     hints: &[Remark],

@@ -24,8 +24,8 @@ pub enum Hint {
     NumberBeforeJump,
     /// A text is empty, and its ESC is the first of the pair that ends the string.
     EmptyText,
-    /// The register of this number is called, and nothing puts a text into it.
-    NeverSet(usize),
+    /// The register of this name is called, and nothing puts a text into it.
+    NeverSet(char),
     /// Bytes come after the last pair of ESC.
     NotRun,
     /// The same, and they end with one ESC.

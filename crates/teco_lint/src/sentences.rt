@@ -10,9 +10,6 @@ use teco_core::{BLOCK_LIMIT, Code, ESC, NoMemory};
 use teco_messages::{Spot, spell_token, token};
 use teco_scan::{Found, Item, TokenKind, token_at};
 
-/// The names of the registers, in order.
-const NAMES: &[u8; 36] = b"ABCDEFGHIJKLMNOPQRSTUVWXYZ0123456789";
-
 /// Shows a text, the spelling of bytes, and another text.
 fn show_around(out: &mut String, before: &str, bytes: &[u8], after: &str) -> Result<(), NoMemory> {
     out.push_str(before)?;
@@ -226,19 +223,11 @@ fn show_fault(
     show_wrong(out, part(commands, fault.inside), at, fault.wrong, opening)
 }
 
-/// The letter or the digit that names the register of a number.
-fn register_name(register: usize) -> &'static [u8] {
-    let names = &NAMES[..];
-    let from = register.min(35);
-    &names[from..from + 1]
-}
-
 /// Shows a hint.
 fn show_hint(out: &mut String, hint: Hint) -> Result<(), NoMemory> {
     let words = match hint {
-        Hint::NeverSet(register) => {
-            let name = register_name(register);
-            return show_around(out, "", name, " is called, and nothing puts a text into it");
+        Hint::NeverSet(name) => {
+            return write!(out, "{name} is called, and nothing puts a text into it");
         }
         Hint::AfterExit => "EX ends the run before this",
         Hint::LeavesNothing => "; is in no iteration of this text, which is SNI",
