@@ -11,6 +11,7 @@ LIBDIR = $(PREFIX)/lib
 INCLUDEDIR = $(PREFIX)/include
 DATADIR = $(PREFIX)/share
 MANDIR = $(DATADIR)/man/man1
+LANGUAGEDIR = $(DATADIR)/man/man7
 DOCDIR = $(DATADIR)/doc/teco
 PCDIR = $(LIBDIR)/pkgconfig
 BASHDIR = $(DATADIR)/bash-completion/completions
@@ -45,7 +46,7 @@ all:
 	tools/build
 	$(MAKE) built
 
-built: $(PROGRAMS) $(LIBRARY) out/completions
+built: $(PROGRAMS) $(LIBRARY) out/completions out/teco.7
 
 ## make help          lists these lines
 help:
@@ -118,6 +119,11 @@ out/reference.h: docs/REFERENCE.md frontends/screen/reference
 out/teco-screen: $(SCREEN_SOURCES) $(SHARED) frontends/screen/screen.h $(HEADERS) out/reference.h out/libteco_c.a
 	$(CC) -std=c11 -pthread $(CFLAGS) -Ibindings/c -Ifrontends/common -Iout $(SCREEN_SOURCES) $(SHARED) out/libteco_c.a -o $@ $(NCURSES) $(LDFLAGS)
 
+# The page of the language for man, made of the reference.
+out/teco.7: docs/REFERENCE.md docs/teco.1 tools/language-page
+	@mkdir -p out
+	tools/language-page > $@
+
 # Where the library lies is said in teco.pc, so it is written anew each time.
 out/teco.pc: bindings/c/teco.pc.in always
 	@mkdir -p out
@@ -134,7 +140,7 @@ out/completions: $(PROGRAMS) tools/completions
 ## make install       puts programs, pages for man, docs, library and completions below PREFIX, /usr/local where it isn't given;
 ##                    with DESTDIR=FOLDER into a folder that stands for the root
 install: all
-	$(INSTALL) -d '$(DESTDIR)$(BINDIR)' '$(DESTDIR)$(LIBDIR)' '$(DESTDIR)$(INCLUDEDIR)' '$(DESTDIR)$(MANDIR)' '$(DESTDIR)$(PCDIR)' \
+	$(INSTALL) -d '$(DESTDIR)$(BINDIR)' '$(DESTDIR)$(LIBDIR)' '$(DESTDIR)$(INCLUDEDIR)' '$(DESTDIR)$(MANDIR)' '$(DESTDIR)$(LANGUAGEDIR)' '$(DESTDIR)$(PCDIR)' \
 	    '$(DESTDIR)$(DOCDIR)/docs' '$(DESTDIR)$(DOCDIR)/examples' '$(DESTDIR)$(BASHDIR)' '$(DESTDIR)$(ZSHDIR)' '$(DESTDIR)$(FISHDIR)'
 	for name in $(NAMES); do \
 	    $(INSTALL) -m 755 out/$$name '$(DESTDIR)$(BINDIR)'/$$name && \
@@ -143,6 +149,7 @@ install: all
 	    $(INSTALL) -m 644 out/completions/$$name.zsh '$(DESTDIR)$(ZSHDIR)'/_$$name && \
 	    $(INSTALL) -m 644 out/completions/$$name.fish '$(DESTDIR)$(FISHDIR)'/$$name.fish || exit 1; \
 	done
+	$(INSTALL) -m 644 out/teco.7 '$(DESTDIR)$(LANGUAGEDIR)/teco.7'
 	$(INSTALL) -m 644 out/libteco_c.a '$(DESTDIR)$(LIBDIR)/libteco_c.a'
 	$(INSTALL) -m 644 bindings/c/teco.h '$(DESTDIR)$(INCLUDEDIR)/teco.h'
 	$(INSTALL) -m 644 out/teco.pc '$(DESTDIR)$(PCDIR)/teco.pc'
@@ -158,7 +165,7 @@ uninstall:
 	    rm -f '$(DESTDIR)$(BINDIR)'/$$name '$(DESTDIR)$(MANDIR)'/$$name.1 '$(DESTDIR)$(BASHDIR)'/$$name \
 	        '$(DESTDIR)$(ZSHDIR)'/_$$name '$(DESTDIR)$(FISHDIR)'/$$name.fish || exit 1; \
 	done
-	rm -f '$(DESTDIR)$(LIBDIR)/libteco_c.a' '$(DESTDIR)$(INCLUDEDIR)/teco.h' '$(DESTDIR)$(PCDIR)/teco.pc'
+	rm -f '$(DESTDIR)$(LANGUAGEDIR)/teco.7' '$(DESTDIR)$(LIBDIR)/libteco_c.a' '$(DESTDIR)$(INCLUDEDIR)/teco.h' '$(DESTDIR)$(PCDIR)/teco.pc'
 	for file in $(TOP_PAGES) $(PAGES) $(EXAMPLES); do rm -f '$(DESTDIR)$(DOCDIR)'/$$file || exit 1; done
 	for folder in docs examples ''; do rmdir '$(DESTDIR)$(DOCDIR)'/$$folder 2> /dev/null || true; done
 

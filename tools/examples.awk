@@ -2,18 +2,20 @@
 #
 # A block ```teco, perhaps with options after it, has commands as tecol reads them, and then parts that begin with a line of their own:
 #   -- before   the input; empty where it isn't there      -- after   the output; none is written where it isn't there
-#   -- typed    what is typed                              -- status N   where it isn't 0 with an output, and 2 without one
+#   -- printed  what is printed                            -- status N   where it isn't 0 with an output, and 2 without one
 #   -- as LINE  a line for the shell that gives the same of the same file, on its standard input
+#   -- any file  the two give the same over every file that is tried: no trap names one
 #   -- match TEXT   what the commands look for; ^J is a line end in it, and ^. at its end keeps a blank before it
 # A block ```sh has lines for the shell, which are run in a folder of its own, and then parts:
 #   -- file NAME   a file that is there before                 -- left NAME   a file as it is after; others may be there too
-#   -- typed       what comes on standard output               -- told        what comes on standard error; nothing where it isn't there
+#   -- printed     what comes on standard output               -- errors      what comes on standard error; nothing where it isn't there
 #   -- status N    where it isn't 0                            -- needs TOOL  the example is left out where this isn't installed
-#   -- as LINE     other lines that type and leave the same    -- match TEXT  what is looked for, as above
+#   -- as LINE     other lines that type and leave the same    -- match TEXT, -- any file   as above
 # After a block with LINE a paragraph may say "*Trap (CASE, CASE):*": over a file of that case, LINE gives something else.
 # A block ```session has lines that begin with "* ", each a command string, with what it types after it. The parts are the same.
 # A row of a table with four columns has commands in the third, and in the fourth the words that they type, perhaps over INPUT of `one`,
-# `two` and `three`, a page each, where its first column has a star after it.
+# `two` and `three`, a page each, where its first column has a star after it; in TOUR.md over the four lines of its file.
+# In FROM.md a row of three columns has a line for the shell and the STRINGS of `teco -p` that do the same, over the block ```text of the page.
 # In a man page, .Dl .. teco .. -e 'COMMANDS' .. comes after comments .\" before, .\" after and .\" typed, each with a text as printf reads it.
 # Another line after .Dl is one for the shell where comments .\" file NAME or .\" left NAME come before it, and perhaps .\" status N.
 
@@ -86,16 +88,30 @@ function code(column) {
     return column
 }
 
-function row(    columns, k) {
+# A line for the shell, and STRINGS that do the same.
+function pair(columns) {
+    begin("")
+    put("before", sample)
+    put("as", code(columns[3]) "\n")
+    put("pages", code(columns[4]))
+    folder = ""
+}
+
+function row(    columns, k, count) {
     gsub(/\\\|/, "\001")
-    if (split($0, columns, "|") != 6) return
+    count = split($0, columns, "|")
     for (k in columns) gsub("\001", "\\|", columns[k])
-    if (code(columns[4]) == "") return
+    if (count == 5 && page == "FROM.md" && code(columns[4]) != "") pair(columns)
+    if (count != 6 || code(columns[4]) == "") return
     begin("")
     put("row", "")
     put("commands", code(columns[4]) "\n")
     put("typed", code(columns[5]) "\n")
     if (columns[2] ~ /\*/) put("before", "one\n^Ltwo\n^Lthree\n")
+    if (page == "TOUR.md") {
+        put("table", "tour_answers")
+        put("before", "Buy milk\nBuy eggs\nCall Anna\nBuy bread\n")
+    }
     if (code(columns[4]) ~ /EX\$\$$/) { has_after = 1; put("written", "") }
     finish()
 }
@@ -149,12 +165,16 @@ folder == "" && /^##/ {
     has_exit = 0
     next
 }
+/^```text$/ { in_sample = 1; next }
+in_sample && /^```$/ { in_sample = 0; next }
+in_sample { sample = sample $0 "\n"; next }
 folder && /^```$/ { end_block(); next }
 folder && /^-- status / { status = $3 + 1; next }
 folder && kind == "sh" && /^-- (file|left) / { part = $2 "/" substr($0, 9); parts[part] = ""; next }
 folder && kind == "sh" && /^-- needs / { put("needs", $3); next }
+folder && /^-- any file$/ { put("any", ""); next }
 folder && /^-- (as|match) / { put($2, substr($0, length($2) + 5) "\n"); next }
-folder && /^-- / { part = $2; parts[part] = ""; if (part == "after") has_after = 1; next }
+folder && /^-- / { part = $2 == "printed" ? "typed" : $2 == "errors" ? "told" : $2; parts[part] = ""; if (part == "after") has_after = 1; next }
 folder && /^\* / && kind == "session" {
     if ($0 ~ /EX\$\$$/) has_exit = 1
     parts["session"] = parts["session"] substr($0, 3) "\n"

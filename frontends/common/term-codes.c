@@ -1,4 +1,4 @@
-/* The codes by which strings end, by their numbers, with the sentences that docs/MANUAL.md gives them. Four say what it is at a terminal. */
+/* The codes by which strings end, by their numbers, with the sentences that docs/ERRORS.md gives them. Four say what it is at a terminal. */
 #include "terminal.h"
 #include <stdio.h>
 

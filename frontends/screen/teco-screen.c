@@ -3,7 +3,7 @@
  *
  *   teco-screen [--limit N] [--output FILE] [--undo N] INPUT
  *
- * docs/SCREEN.md tells of the rule and the keys. A string is tried in a copy of the process; nothing here changes the text of the session
+ * docs/TERMINAL.md tells of the rule and the keys. A string is tried in a copy of the process; nothing here changes the text of the session
  * but through teco_run, teco_undo, teco_redo and teco_rewind.
  */
 #include "screen.h"

@@ -3,7 +3,7 @@
  *
  *   teco-term [--limit N] [--output FILE] [--undo N] [--steps] INPUT
  *
- * Keys make command strings, which are run at ESC ESC by the library of teco.h; docs/TERM.md tells of the keys. What a string types is
+ * Keys make command strings, which are run at ESC ESC by the library of teco.h; docs/TERMINAL.md tells of the keys. What a string types is
  * shown when it has ended. Nothing here changes a text but through teco_run, teco_undo, teco_redo and teco_rewind.
  */
 #include "term-editor.h"

@@ -8,16 +8,18 @@ fn page(at: usize) -> &'static str {
     match at {
         0 => tour::EXAMPLES,
         1 => man_page::EXAMPLES,
-        2 => cookbook_replacing::EXAMPLES,
-        3 => cookbook_lines::EXAMPLES,
-        4 => cookbook_columns_and_fields::EXAMPLES,
-        5 => cookbook_paragraphs::EXAMPLES,
+        2 => cookbook_six_to_begin_with::EXAMPLES,
+        3 => cookbook_replace::EXAMPLES,
+        4 => cookbook_lines::EXAMPLES,
+        5 => cookbook_columns_and_fields::EXAMPLES,
         6 => cookbook_numbers::EXAMPLES,
-        7 => cookbook_macros_and_bytes::EXAMPLES,
+        7 => cookbook_macros::EXAMPLES,
         8 => cookbook_pages::EXAMPLES,
-        9 => cookbook_looking_and_taking_back::EXAMPLES,
+        9 => cookbook_undo::EXAMPLES,
         10 => reference::EXAMPLES,
         11 => macros::EXAMPLES,
+        12 => from::EXAMPLES,
+        13 => tour_answers::EXAMPLES,
         _ => "",
     }
 }
@@ -33,13 +35,15 @@ fn pages_tell_what_is_typed_and_written(rt: HostRuntime) {
 
 mod cookbook_columns_and_fields;
 mod cookbook_lines;
-mod cookbook_looking_and_taking_back;
-mod cookbook_macros_and_bytes;
+mod cookbook_macros;
 mod cookbook_numbers;
 mod cookbook_pages;
-mod cookbook_paragraphs;
-mod cookbook_replacing;
+mod cookbook_replace;
+mod cookbook_six_to_begin_with;
+mod cookbook_undo;
+mod from;
 mod macros;
 mod man_page;
 mod reference;
 mod tour;
+mod tour_answers;
