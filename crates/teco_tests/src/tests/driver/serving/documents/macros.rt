@@ -1,25 +1,25 @@
 //! Examples of the pages, made by `tools/rows --write`.
 
 pub(super) const EXAMPLES: &str = "
-    // What runs on, and does something else
+    // Silent differences
     Icat$J:SCAT$=0\x18J:SCAT$=$$ => 0-1 => ?
-    // What runs on, and does something else
+    // Silent differences
     I1^Ea$J:S`D$=:S^E$=$$ => -1-1 => ?
-    // What runs on, and does something else
+    // Silent differences
     Iab$<Sx$1=>2=$$ => ?SRH => ?
-    // What runs on, and does something else
+    // Silent differences
     Iab$<Sx$;1=>2=$$ => 2 => ?
-    // What runs on, and does something else
+    // Silent differences
     Ox$1<!x!1=>$$ => ?TAG => ?
-    // What runs on, and does something else
+    // Silent differences
     1<1\"G1=>'$$ => 1?BNI => ?
-    // What runs on, and does something else
+    // Silent differences
     40000+40000=2147483647+1=$$ => 80000?OVF => ?
-    // What runs on, and does something else
+    // Silent differences
     Iab\n$-DHTZ=$$ => ab2 => ?
-    // What runs on, and does something else
+    // Silent differences
     @\x15A/1=$$ => ?UTC => ?
-    // What runs on, and does something else
+    // Silent differences
     @\x15A/1=Oend$2=!end!/MA$$ => 1 => ?
     // What to write in its place
     Ione\ntwo\n$JXAL .U9 :QAU8 GA L Q9,.XA Q9,Q9+Q8K :GA$$ => onetwo => ?
