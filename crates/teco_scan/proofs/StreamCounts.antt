@@ -1,28 +1,36 @@
 -- Lemmas on texts that are digits and a brace or a tilde.
-use Rattle.std.proofs.Common.{◌≡◌, ℕ, ◌+◌, ◌-◌, ◌*◌, ◌<◌, ◌≤◌, List, [], ◌∷◌, ◌++◌, length, take, drop, get_or, true, leb, refl, ap, ◌∙◌, arith}
+use Rattle.std.proofs.Common.{◌≡◌, ℕ, ◌+◌, ◌-◌, ◌*◌, ◌<◌, ◌≤◌, ◌^◌, suc, List, [], ◌∷◌, ◌++◌, length, take, get_or, true, leb, Ok, pos, refl, ap, sym, subst, ◌∙◌, arith, rules, tests}
 use Rattle.std.proofs.lemmas.Bool.Decides.{nat_tests}
-use Rattle.std.proofs.lemmas.List.{at_drop_more, drop_all, get_or_at, take_at, length_push}
-use Rattle.std.proofs.lemmas.List.Sums.{AllPass-from_list_all}
+use Rattle.std.proofs.lemmas.List.{get_or_at, take_at, length_push}
+use Rattle.std.proofs.Math.Nat.{mul_assoc, pow-le-pow_right, pow-succ'}
+use Rattle.std.proofs.lemmas.Bool.{and_parts}
 use Rattle.std.specs.List.{list_all}
 use Rattle.teco_scan.specs.Stream.{asked_by, history_asked, history_asked_in}
 use Rattle.teco_core.specs.Ascii.{is_digit}
-use Rattle.teco_core.specs.Number.{digits_value}
+use Rattle.teco_core.specs.Number.{decimal_value, digits_value, fitted}
 
 is_digit-bounds : (d : ℕ) → is_digit d ≡ true → (48 ≤ d) × (d ≤ 57)
 is_digit-bounds d e = grind (arith, nat_tests)
 
--- one of some digits
-pub digit_at : (ds : List ℕ) (i : ℕ) → i < length ds → list_all is_digit ds ≡ true → (48 ≤ get_or ds i 0) × (get_or ds i 0 ≤ 57)
-digit_at ds i l e = is_digit-bounds (get_or ds i 0) (AllPass-from_list_all is_digit ds e i 0 l)
-
--- the value of digits, one digit on and at the end
-pub digits_value-more : (n : ℕ) (ds : List ℕ) (i : ℕ) → i < length ds → digits_value n (drop i ds) ≡ digits_value (n * 10 + (get_or ds i 0 - 48)) (drop (i + 1) ds)
+-- Each digit makes the value at most ten times as large.
+digits_value-below : (n b : ℕ) (ds : List ℕ) → n < b → list_all is_digit ds ≡ true → digits_value n ds < b * 10 ^ length ds
 unfolding digits_value
-digits_value-more n ds i l = at_drop_more (digits_value n) ds i 0 l
+digits_value-below n b [] small digits = omega (arith, small)
+digits_value-below n b (d ∷ ds) small digits =
+    let each = and_parts (is_digit d) (list_all is_digit ds) digits in
+    let next = is_digit-bounds d each.0 in
+    let below : digits_value (n * 10 + (d - 48)) ds < (b * 10) * 10 ^ length ds = digits_value-below (n * 10 + (d - 48)) (b * 10) ds (omega (arith, small, next.1)) each.1 in
+    let more : (b * 10) * 10 ^ length ds ≡ b * 10 ^ suc (length ds) = mul_assoc b 10 (10 ^ length ds) ∙ ap (λ k. b * k) (sym (pow-succ' 10 (length ds))) in
+    subst (λ (k : ℕ). digits_value (n * 10 + (d - 48)) ds < k) more below
 
-pub digits_value-all : (n : ℕ) (ds : List ℕ) (i : ℕ) → length ds ≤ i → digits_value n (drop i ds) ≡ n
-unfolding digits_value
-digits_value-all n ds i l = ap (digits_value n) (drop_all i ds l)
+fits : (n : ℕ) → n < 2 ^ 31 → fitted (pos n) ≡ Ok (pos n)
+fits n small = search (rules, tests)
+
+-- Nine digits say a number in the range.
+pub few_digits-fit : (ds : List ℕ) → length ds ≤ 9 → list_all is_digit ds ≡ true → decimal_value ds ≡ Ok (pos (digits_value 0 ds))
+few_digits-fit ds few digits =
+    let most : 10 ^ length ds ≤ 10 ^ 9 = pow-le-pow_right {n = 10} (omega arith) {i = length ds} {j = 9} few in
+    fits (digits_value 0 ds) (omega (arith, digits_value-below 0 1 ds (omega arith) digits, most))
 
 -- bytes that end in this one
 pub history_asked-push : (ds : List ℕ) (b : ℕ) → history_asked (ds ++ b ∷ []) ≡ history_asked_in ds b

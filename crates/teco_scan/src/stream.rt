@@ -6,7 +6,7 @@ ghost use Rattle.teco_core.specs.Number.{digits_value};
 ghost use Rattle.teco_core.specs.declared.ascii.TheConstants.{ESC};
 ghost use Rattle.teco_scan.specs.Stream.{IsText, asks_history, ends_in_escape, history_asked, move_asked, texts_of, times, without_fillers_after, without_fillers_before};
 
-use teco_core::{ESC, is_filler};
+use teco_core::{ESC, decimal, is_filler};
 
 /// The byte that asks undos.
 pub const UNDO: u8 = b'{';
@@ -58,11 +58,11 @@ fn number(digits: &[u8]) -> u32
     requires digits { IsTrue (list_all is_digit digits.now) }
     ensures { result ≡ digits_value 0 digits.now }
 {
-    let mut number: u32 = 0;
-    for digit in digits {
-        number = number * 10 + u32::from(*digit - b'0');
+    match decimal(digits) {
+        Ok(number) => number as u32,
+        // Nine digits say no number above the range.
+        Err(_) => unreachable!(),
     }
-    number
 }
 
 /// How often: the number that the digits say, once where there are none.
