@@ -1,3 +1,4 @@
 pub mod Disks
 pub mod FileLogs
+pub mod Told
 pub mod Writings

@@ -20,7 +20,7 @@ use Rattle.teco_serve.specs.Message.{lines_of, message, replies_shown, star}
 use Rattle.teco_scan.specs.Stream.{Asks, is_run}
 use Rattle.teco_scan.specs.Stream.Asks.{Run}
 use Rattle.teco_serve.specs.declared.alarm.Bounds.{Bounds}
-use Rattle.teco_serve.proofs.Showing.{some-left, some-right}
+use Rattle.teco_io.proofs.Shown.{nonempty_before, nonempty_after}
 
 -- a run that an alarm may have broken off is allowed where seconds are given
 pub runs_allowed : {A : Type 0} (answered : A → Answers) (before after : A) (bounds : Bounds) (seconds : ℕ) (outcome : Outcome) (RanUnder : ℕ → Type 0) (under : ℕ)
@@ -123,7 +123,7 @@ replies_shown-one replies reply e f =
 
 -- an answer with a message shows something
 pub message-some : (reply : Reply) → message reply.answer ≢ [] → replies_shown (reply ∷ []) ≢ []
-message-some reply some = some-left (reply.typed ++ message reply.answer) [] (some-right reply.typed (message reply.answer) some)
+message-some reply some = nonempty_before (reply.typed ++ message reply.answer) [] (nonempty_after reply.typed (message reply.answer) some)
 
 code_some : (code : Option Code) → (elim code [ Some Tty ↦ true | _ ↦ false ]) ≡ true → lines_of code ≢ []
 code_some None e = absurd (true≢false (sym e))

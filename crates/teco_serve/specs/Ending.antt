@@ -1,5 +1,5 @@
 -- How the program ends: its status, and what it prints on standard error.
-use Rattle.std.specs.Prelude.{ℕ, List, [], ◌∷◌, ◌++◌, Some, None, codes, if◌then◌else◌}
+use Rattle.std.specs.Prelude.{ℕ, List, [], ◌++◌, Some, None, codes, if◌then◌else◌}
 use Rattle.std.specs.String.{string_bytes}
 use Rattle.teco_io.specs.declared.input.InputFault.{InputFault}
 use Rattle.teco_io.specs.declared.input.InputFault.TheVariants as input
@@ -69,7 +69,7 @@ status_of (Ended served.NoMemory) = 1
 
 -- a line that ends by LF
 abbrev pub said : List ℕ → List ℕ
-said words = codes "teco: " ++ words ++ 10 ∷ []
+said words = codes "teco: " ++ words ++ codes "\n"
 
 -- the line of a fate, for this input of the line
 abbrev pub text_of : Line → List ℕ → Fate → List ℕ

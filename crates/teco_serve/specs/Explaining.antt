@@ -1,5 +1,5 @@
 -- What `--explain` tells, and when.
-use Rattle.std.specs.Prelude.{◌≡◌, ◌⊎◌, ℕ, ◌+◌, ◌-◌, ◌^◌, ◌==◌, List, [], ◌∷◌, ◌++◌, length, min, codes, nat_lt, count_by, if◌then◌else◌, Option, Some, None, option_map, Result, Ok, Err, Bool, true, false, ◌&&◌}
+use Rattle.std.specs.Prelude.{◌≡◌, ◌⊎◌, ℕ, ◌+◌, ◌-◌, ◌^◌, ◌==◌, List, [], ◌++◌, length, min, codes, nat_lt, count_by, if◌then◌else◌, Option, Some, None, option_map, Result, Ok, Err, Bool, true, false, ◌&&◌}
 use Rattle.std.specs.Fmt.{decimal}
 use Rattle.std.specs.List.{list_all}
 use Rattle.std.specs.String.{string_bytes}
@@ -51,11 +51,11 @@ abbrev pub stop_line : ℕ → Limits → List ℕ → Answered → KeptSession 
 stop_line n limits text answered session None = []
 stop_line n limits text answered session (Some code) =
     of_string n ++ stop_shown (place_had answered.place) (state_of session.editor).registers text code
-    (Some (limits_after limits (outcome_of answered.answer))) ++ 10 ∷ []
+    (Some (limits_after limits (outcome_of answered.answer))) ++ codes "\n"
 
 -- how many steps it took
 abbrev pub steps_line : ℕ → ℕ → List ℕ
-steps_line n steps = of_string n ++ (codes ": steps taken " ++ decimal steps ++ 10 ∷ [])
+steps_line n steps = of_string n ++ (codes ": steps taken " ++ decimal steps ++ codes "\n")
 
 -- the same, if that is wanted and it was begun
 abbrev pub steps_told : ℕ → Bool → Option Outcome → List ℕ
@@ -83,7 +83,7 @@ exits_first place session (Some outcome) =
 -- an exit before any page was read, since most of them were meant to come after one
 abbrev pub exit_line : ℕ → KeptSession → Option Outcome → List ℕ
 exit_line place session ended = if exits_first place session ended
-    then codes "EX came before any page was read: the input is copied" ++ 10 ∷ [] else []
+    then codes "EX came before any page was read: the input is copied\n" else []
 
 -- the number of the next text, which stops at the highest one
 abbrev pub next_number : Telling → ℕ
@@ -109,14 +109,14 @@ run_lines t text answered session =
 -- why undos, redos or a rewind were refused, if they were
 abbrev pub refusal_line : ℕ → Option Code → List ℕ
 refusal_line n None = []
-refusal_line n (Some code) = of_string n ++ code_shown code ++ 10 ∷ []
+refusal_line n (Some code) = of_string n ++ code_shown code ++ codes "\n"
 
 -- how many strings can be undone and redone, if that is wanted
 abbrev pub history_line : ℕ → Bool → KeptSession → List ℕ
 history_line n false session = []
 history_line n true session =
     of_string n ++ codes ": strings to undo " ++ decimal session.cursor
-    ++ codes ", to redo " ++ decimal (length session.strings - session.cursor) ++ 10 ∷ []
+    ++ codes ", to redo " ++ decimal (length session.strings - session.cursor) ++ codes "\n"
 
 -- What is told of a text that asked for undos, redos or a rewind.
 abbrev pub move_lines : Telling → Option Code → KeptSession → List ℕ
@@ -132,12 +132,12 @@ after_what false = codes "the last ESC ESC"
 abbrev pub left_line : List ℕ → Bool → List ℕ
 left_line bytes broken_off =
     if list_all is_filler bytes then []
-    else if length bytes == 1 then codes "1 byte after " ++ after_what broken_off ++ codes " was not run" ++ 10 ∷ []
-    else decimal (length bytes) ++ codes " bytes after " ++ after_what broken_off ++ codes " were not run" ++ 10 ∷ []
+    else if length bytes == 1 then codes "1 byte after " ++ after_what broken_off ++ codes " was not run" ++ codes "\n"
+    else decimal (length bytes) ++ codes " bytes after " ++ after_what broken_off ++ codes " were not run" ++ codes "\n"
 
 -- an output that is not written
 abbrev pub unwritten_line : List ℕ → List ℕ
-unwritten_line name = name ++ codes " is not written" ++ 10 ∷ []
+unwritten_line name = name ++ codes " is not written" ++ codes "\n"
 
 -- What is told of how the run over an input ended, by the name of its output: what became of that.
 abbrev pub end_line : List ℕ → Fate → List ℕ
@@ -148,9 +148,9 @@ end_line output NotRegular = unwritten_line output
 end_line output LargeInput = unwritten_line output
 end_line output NoMemory = unwritten_line output
 end_line output Changed = unwritten_line output
-end_line output Unchanged = output ++ codes " is unchanged" ++ 10 ∷ []
-end_line output (Lacking unkept) = output ++ codes " is written" ++ 10 ∷ []
-end_line output (Ended served.Exit) = output ++ codes " is written" ++ 10 ∷ []
+end_line output Unchanged = output ++ codes " is unchanged" ++ codes "\n"
+end_line output (Lacking unkept) = output ++ codes " is written" ++ codes "\n"
+end_line output (Ended served.Exit) = output ++ codes " is written" ++ codes "\n"
 end_line output (Ended served.EndOfCommands) = codes "the commands ended without EX: " ++ unwritten_line output
 end_line output (Ended served.ReadFault) = unwritten_line output
 end_line output (Ended served.ShowFault) = unwritten_line output
@@ -159,12 +159,12 @@ end_line output (Ended served.NoMemory) = unwritten_line output
 -- Lines are told at once: all of them are shown, or a beginning and then the terminal fails. If memory lacked for
 -- them, that is told.
 abbrev pub TellsLines : Screen → Screen → List ℕ → Type 0
-TellsLines old new lines = Tells old new lines ⊎ Tells old new (codes "no memory to explain" ++ 10 ∷ [])
+TellsLines old new lines = Tells old new lines ⊎ Tells old new (codes "no memory to explain\n")
 
 -- the lines, where there was memory for them
 abbrev pub told : Result (String Global) AllocError → List ℕ
 told (Ok lines) = string_bytes lines
-told (Err lacking) = codes "no memory to explain" ++ 10 ∷ []
+told (Err lacking) = codes "no memory to explain\n"
 
 -- What a listener tells of, if it tells anything; and what is seen of the notes that it tells it on.
 pub record Hearing : Type 0 where

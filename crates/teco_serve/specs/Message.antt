@@ -1,5 +1,5 @@
 -- What is shown of answers.
-use Rattle.std.specs.Prelude.{ℕ, List, [], ◌∷◌, ◌++◌, Option, Some, None, Bool, true, false}
+use Rattle.std.specs.Prelude.{ℕ, List, [], ◌++◌, Option, Some, None, Bool, true, false, codes}
 use Rattle.std.specs.List.{flat_map}
 use Rattle.teco_core.specs.Code.{letters_of}
 use Rattle.teco_core.specs.declared.code.Code.{Code}
@@ -9,7 +9,7 @@ use Rattle.teco_session.specs.declared.request.Answer.{Answer}
 
 -- a question mark, the letters of the code, CR LF
 abbrev pub code_line : Code → List ℕ
-code_line code = 63 ∷ letters_of code ++ 13 ∷ 10 ∷ []
+code_line code = codes "?" ++ letters_of code ++ codes "\r\n"
 
 abbrev pub lines_of : Option Code → List ℕ
 lines_of None = []
@@ -25,5 +25,5 @@ replies_shown replies = flat_map (λ reply. reply.typed ++ message reply.answer)
 
 -- what asks for commands: a star where the prompt is wanted
 abbrev pub star : Bool → List ℕ
-star true = 42 ∷ []
+star true = codes "*"
 star false = []

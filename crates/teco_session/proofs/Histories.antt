@@ -1,5 +1,5 @@
 -- Lemmas on histories and on lists of requests.
-use Rattle.std.proofs.Common.{◌≡◌, ℕ, zero, suc, ◌≤◌, false, List, [], ◌∷◌, ◌++◌, length, take, refl, sym, ap, ◌∙◌, arith, subst, append-nil, append_assoc, length-append, length-take}
+use Rattle.std.proofs.Common.{◌≡◌, ℕ, zero, suc, ◌≤◌, List, [], ◌∷◌, ◌++◌, length, take, refl, sym, ap, ◌∙◌, arith, subst, append-nil, append_assoc, length-append, length-take}
 use Rattle.std.proofs.KnownBytes.{Appends-trans, Appends-nil}
 use Rattle.teco_store.specs.State.{State}
 use Rattle.teco_exec.specs.StringMeaning.{string_meaning}
@@ -44,9 +44,6 @@ typed_by-more (r ∷ rs) reply = ap (λ l. r.typed ++ l) (typed_by-more rs reply
 failures_after-more : (answers : List Answer) (answer : Answer) (n : ℕ) → failures_after (answers ++ answer ∷ []) n ≡ count_after (is_terminal_failure answer) (failures_after answers n)
 failures_after-more [] answer n = refl
 failures_after-more (a ∷ more) answer n = failures_after-more more answer (count_after (is_terminal_failure a) n)
-
-pub Shows-nil : (t : Screen) → Shows t t [] false
-Shows-nil t = record { more = Appends-nil t.shown; count = refl }
 
 pub ShowsAll-nil : (t : Screen) → ShowsAll t t []
 ShowsAll-nil t = record { more = Appends-nil t.shown; count = refl }

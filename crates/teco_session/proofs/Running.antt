@@ -1,13 +1,12 @@
 -- Sessions: a string is run.
-use Rattle.std.proofs.Common.{◌≡◌, ℕ, ◌+◌, ◌≤◌, Option, Some, None, IfSome, List, [], ◌∷◌, ◌++◌, length, take, drop, reverse, ◌⊎◌, inl, inr, true, false, refl, sym, ◌∙◌, ap, subst, arith, append_assoc, length-append}
+use Rattle.std.proofs.Common.{◌≡◌, ℕ, ◌+◌, ◌≤◌, Option, Some, None, IfSome, List, [], ◌∷◌, ◌++◌, length, take, drop, reverse, refl, sym, ◌∙◌, ap, subst, arith, append_assoc, length-append}
 use Rattle.std.proofs.lemmas.List.{reverse-append, length-reverse, length-take-le, drop_all, take_all, take_at, take-take, take-append-drop}
 use Rattle.teco_store.specs.State.{State, Body, IsSound, Extends, state_at, state_of}
 use Rattle.teco_undo.specs.Entry.{body_back}
 use Rattle.teco_undo.specs.Follows.{HasCome, LeadsBack}
 use Rattle.teco_undo.specs.RecordLaws.{BackThenForth, ComesSoExtended}
-use Rattle.teco_exec.specs.Runs.{IsBrokenOff, RunsWithin, never_asks, trail_of}
+use Rattle.teco_exec.specs.Runs.{trail_of}
 use Rattle.teco_exec.specs.StringMeaning.{string_meaning}
-use Rattle.teco_exec.specs.declared.outcome.Outcome.{Outcome}
 use Rattle.teco_session.specs.History.{History, NotedString, IsHistory, appended}
 use Rattle.teco_session.specs.Strings.{KeptString}
 use Rattle.teco_session.specs.Kept.{KeptSession, done_strings, undone_strings, noted_as, first_body, done_notes, undone_notes, history_of, HasRun, editor_at, LeadBack, LeadForth, IsSession}
@@ -117,14 +116,6 @@ session_appended law more s t x ok r run again strings at depth =
       };
       history = same;
     }
-
--- A run that nobody asks to stop has the limit that it was given.
-pub unbroken : (limit : ℕ) (outcome : Outcome) (P : ℕ → Type 0) → RunsWithin never_asks limit outcome P → P limit
-unbroken limit outcome P r = under_it r.under r.stays r.so
-  where
-    under_it : (l : ℕ) → (l ≡ limit) ⊎ IsBrokenOff never_asks l outcome → P l → P limit
-    under_it l (inl same) so = subst P same so
-    under_it l (inr broken) so = let never : true ≡ false = broken.asked in absurd cc
 
 -- What follows of a value follows of the one that there is.
 pub each_some : {A : Type 0} (P Q : A → Type 0) → ((x : A) → P x → Q x) → (o : Option A) → IfSome o P → IfSome o Q

@@ -7,7 +7,7 @@ use Rattle.teco_session.specs.Step.{Reply}
 use Rattle.teco_serve.specs.Exchange.{Repeats}
 use Rattle.teco_serve.specs.Message.{message}
 use Rattle.teco_serve.proofs.Exchanges.{Repeats-on, Repeats-refused, less_one, replies_shown-one, request_quiet}
-use Rattle.teco_serve.proofs.Showing.{Puts-after, Shows-nil, Shows-trans}
+use Rattle.teco_io.proofs.Shown.{Puts-after, Shows-nil, Shows-trans}
 use Rattle.teco_serve.proofs.exchange.repeat.Goals as goal
 
 pub moves-init : goal.moves-init

@@ -1,7 +1,7 @@
 use Rattle.std.proofs.Common.{subst, ap, ◌∙◌, false}
 use Rattle.teco_io.specs.Terminal.{Shows, Puts}
 use Rattle.teco_serve.specs.Message.{lines_of, message}
-use Rattle.teco_serve.proofs.Showing.{Shows-nil}
+use Rattle.teco_io.proofs.Shown.{Shows-nil}
 use Rattle.teco_serve.proofs.exchange.show_message.Goals as goal
 
 pub returns-in-None-clause-puts : goal.returns-in-None-clause-puts

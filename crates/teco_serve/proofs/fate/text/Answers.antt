@@ -4,7 +4,7 @@ use Rattle.std.specs.Prelude.{◌≢◌}
 use Rattle.std.proofs.lemmas.Result.{IfOk-from_err}
 use Rattle.teco_fs.specs.Reasons.{with_reason}
 use Rattle.teco_serve.specs.Ending.{commands_name, output_of, said}
-use Rattle.teco_serve.proofs.Showing.{on_err_by}
+use Rattle.teco_fs.proofs.Writings.{on_err_by}
 use Rattle.teco_serve.proofs.fate.text.Goals as goal
 
 -- a line that is told has bytes

@@ -4,7 +4,7 @@ use Rattle.teco_session.specs.Kept.{history_of}
 use Rattle.teco_session.specs.Step.{Step, RunStep, UndoStep, RedoStep, RewindStep}
 use Rattle.teco_session.specs.declared.request.Request.{Request}
 use Rattle.teco_session.specs.declared.request.Answer.TheVariants.{Undone, NothingToUndo, Redone, NothingToRedo, Rewound}
-use Rattle.teco_session.proofs.Histories.{Shows-nil}
+use Rattle.teco_io.proofs.Shown.{Shows-nil}
 use Rattle.teco_session.proofs.session.Session.answer.Goals as goal
 
 at_first : (n : ℕ) → (0 < n → false ≡ true) → n ≡ 0

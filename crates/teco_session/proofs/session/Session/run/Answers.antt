@@ -1,4 +1,4 @@
-use Rattle.teco_session.proofs.Running.{unbroken}
+use Rattle.teco_exec.proofs.Continuations.{unbroken}
 use Rattle.teco_session.proofs.session.Session.run.Goals as goal
 
 pub returns : goal.returns

@@ -12,7 +12,7 @@ use Rattle.teco_session.specs.Kept.{KeptSession, HasRun, IsSession, history_of, 
 use Rattle.teco_session.specs.Entries.{kept_string, strings_of, depth_of}
 use Rattle.teco_session.specs.SessionView.{kept_session}
 use Rattle.teco_session.specs.declared.entry.Entry.{Entry}
-use Rattle.teco_session.proofs.Histories.{Shows-nil}
+use Rattle.teco_io.proofs.Shown.{Shows-nil}
 use Rattle.teco_session.proofs.Records.{kept_run}
 use Rattle.teco_session.proofs.Turning.{present_is}
 use Rattle.teco_session.proofs.Sessions.{Ran, Went, session_noted, session_went, session_with}
