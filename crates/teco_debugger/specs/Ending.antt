@@ -1,5 +1,5 @@
 -- How a run ends: its status, and the line that it tells on standard error.
-use Rattle.std.specs.Prelude.{◌≡◌, ◌⊎◌, ℕ, List, [], ◌∷◌, ◌++◌, Option, Some, None, codes}
+use Rattle.std.specs.Prelude.{◌≡◌, ◌⊎◌, ℕ, List, [], ◌++◌, Option, Some, None, codes}
 use Rattle.std.specs.String.{string_bytes}
 use Rattle.std.specs.declared.alloc.Global.{Global}
 use Rattle.std.specs.declared.string.String.{String}
@@ -19,7 +19,7 @@ status_of_ending _ = 1
 
 -- a line that ends by LF
 abbrev pub told_line : List ℕ → List ℕ
-told_line words = codes "teco-debug: " ++ words ++ 10 ∷ []
+told_line words = codes "teco-debug: " ++ words ++ codes "\n"
 
 -- what is told of a file that is not had
 abbrev pub fault_words : List ℕ → FileFault → List ℕ

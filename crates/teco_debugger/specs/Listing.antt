@@ -10,20 +10,21 @@ use Rattle.teco_store.specs.State.{State}
 use Rattle.teco_messages.specs.Placed.{register_name}
 use Rattle.teco_messages.specs.Spelling.{spelled, spelling}
 use Rattle.teco_debugger.specs.declared.listing.TheConstants.{MOST_SHOWN}
+use Prim.Native.Char.{code}
 
 -- a line feed begins a new line, and every other byte is spelled
 abbrev pub shown_in_lines : ℕ → List ℕ
-shown_in_lines b = if b == 10 then 10 ∷ [] else spelling b
+shown_in_lines b = if b == code "\n" then codes "\n" else spelling b
 
 abbrev pub lines_shown : List ℕ → List ℕ
 lines_shown bytes = flat_map shown_in_lines bytes
 
 -- with a line feed at the end, if there is none
 abbrev pub is_line_ended : List ℕ → Bool
-is_line_ended shown = nat_lt 0 (length shown) && slice_index shown (length shown - 1) == 10
+is_line_ended shown = nat_lt 0 (length shown) && slice_index shown (length shown - 1) == code "\n"
 
 abbrev pub with_line_end : List ℕ → List ℕ
-with_line_end shown = if is_line_ended shown then shown else shown ++ 10 ∷ []
+with_line_end shown = if is_line_ended shown then shown else shown ++ codes "\n"
 
 -- how many lines are shown each way: at least one, and at most 1000
 abbrev pub lines_each_way : ℕ → ℕ
@@ -52,7 +53,7 @@ held_shown (b ∷ bytes) most =
 abbrev pub register_shown : List Content → ℕ → ℕ → List ℕ
 register_shown registers q most =
     let c : Content = content registers q in
-    register_name q ∷ codes ": " ++ signed_decimal c.number ++ held_shown c.text most ++ 10 ∷ []
+    register_name q ∷ codes ": " ++ signed_decimal c.number ++ held_shown c.text most ++ codes "\n"
 
 -- with all of its text
 abbrev pub whole_register : List Content → ℕ → List ℕ
@@ -79,36 +80,36 @@ registers_shown registers =
 
 -- whether the last search found its text
 unfoldable pub found_shown : Bool → List ℕ
-found_shown found = if found then codes ", found" ++ 10 ∷ [] else codes ", not found" ++ 10 ∷ []
+found_shown found = if found then codes ", found\n" else codes ", not found\n"
 
 unfoldable pub last_shown : List ℕ → Bool → List ℕ
 last_shown text found = codes "last search " ++ (spelled text ++ found_shown found)
 
 unfoldable pub search_shown : Option (List ℕ) → Bool → List ℕ
-search_shown None found = codes "no search yet" ++ 10 ∷ []
+search_shown None found = codes "no search yet\n"
 search_shown (Some text) found = last_shown text found
 
 -- a line that is shown only if something is so
 unfoldable pub line_if : Bool → List ℕ → List ℕ
-line_if so words = if so then words ++ 10 ∷ [] else []
+line_if so words = if so then words ++ codes "\n" else []
 
 unfoldable pub case_shown : CaseMode → List ℕ
-case_shown Exact = codes "searches tell the cases of a letter apart" ++ 10 ∷ []
+case_shown Exact = codes "searches tell the cases of a letter apart\n"
 case_shown Either = []
 
 -- where the pointer is, in how long a text
 unfoldable pub pointer_shown : ℕ → ℕ → List ℕ
-pointer_shown pointer len = codes "pointer " ++ decimal pointer ++ codes " of " ++ decimal len ++ 10 ∷ []
+pointer_shown pointer len = codes "pointer " ++ decimal pointer ++ codes " of " ++ decimal len ++ codes "\n"
 
 -- how much was read and written
 unfoldable pub read_shown : ℕ → List ℕ
 read_shown place = codes "input " ++ decimal place ++ codes " bytes read"
 
 unfoldable pub written_shown : ℕ → List ℕ
-written_shown output = codes ", output " ++ decimal output ++ codes " bytes written" ++ 10 ∷ []
+written_shown output = codes ", output " ++ decimal output ++ codes " bytes written" ++ codes "\n"
 
 unfoldable pub pushed_shown : ℕ → List ℕ
-pushed_shown count = codes "pushed " ++ decimal count ++ 10 ∷ []
+pushed_shown count = codes "pushed " ++ decimal count ++ codes "\n"
 
 -- how much there is of the text, the input, the output and the push-down list
 unfoldable pub sizes_shown : State → List ℕ

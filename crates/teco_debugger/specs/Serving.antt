@@ -8,6 +8,7 @@ use Rattle.teco_debugger.specs.Moving.{SameRun}
 use Rattle.teco_debugger.specs.declared.debugger.Debugger.{Debugger}
 use Rattle.teco_debugger.specs.declared.ending.Ending.{Ending}
 use Rattle.teco_debugger.specs.declared.ending.Ending.TheVariants.{Done, NoText, NoInput, NoMemory, ReadFault, ShowFault}
+use Prim.Native.Char.{code}
 
 -- what is seen of a serving at a moment: the bytes of the commands that are still to come, where they are known, the
 -- debugger, and what is shown
@@ -21,8 +22,8 @@ stage coming debugger screen = record { coming = coming; debugger = debugger; sc
 
 -- The line is the next one, with its LF if it has one.
 pub record TakesLine (line : List ℕ) (before after : Option (List ℕ)) : Type 0 where
-  pub line_is : IfSome before (λ bytes. line ≡ take_through 10 bytes)
-  pub rest : DropsThrough before after 10
+  pub line_is : IfSome before (λ bytes. line ≡ take_through (code "\n") bytes)
+  pub rest : DropsThrough before after (code "\n")
 
 -- What the debugger does with a line, and how the serving ends by it, if it does.
 abbrev pub Obeys : List ℕ → Option Ending → Debugger → Debugger → Screen → Screen → Type 0

@@ -1,5 +1,5 @@
 -- What is shown of where a walk stands.
-use Rattle.std.specs.Prelude.{ℕ, zero, suc, ◌+◌, ◌-◌, List, [], ◌∷◌, ◌++◌, length, take, drop, min, max, replicate, slice_range, slice_get, codes, nat_lt, if◌then◌else◌, Option, Some, None, ◌==◌}
+use Rattle.std.specs.Prelude.{ℕ, zero, suc, ◌+◌, ◌-◌, List, [], ◌++◌, length, take, drop, min, max, replicate, slice_range, slice_get, codes, nat_lt, if◌then◌else◌, Option, Some, None, ◌==◌}
 use Rattle.std.specs.Fmt.{decimal}
 use Rattle.std.specs.List.{after_last, before_first, flat_map}
 use Rattle.teco_core.specs.declared.code.Code.{Code}
@@ -14,6 +14,7 @@ use Rattle.teco_messages.specs.Token.{token_in}
 use Rattle.teco_debugger.specs.Walk.{KeptWalk, state_there}
 use Rattle.teco_debugger.specs.declared.walk.Seen.{Seen}
 use Rattle.teco_debugger.specs.declared.showing.TheConstants.{MOST_FAULTY}
+use Prim.Native.Char.{code}
 
 -- the text whose token is shown: what a register holds, or the string
 abbrev pub innermost : KeptWalk → Place → List ℕ
@@ -35,7 +36,7 @@ code_there (Some code) = code_shown code
 -- the step, the place, the token and the code, in a line
 abbrev pub step_shown : KeptWalk → Seen → List ℕ
 step_shown w seen =
-    codes "step " ++ decimal w.steps ++ codes ", " ++ place_there w seen.place ++ code_there seen.outcome.code ++ 10 ∷ []
+    codes "step " ++ decimal w.steps ++ codes ", " ++ place_there w seen.place ++ code_there seen.outcome.code ++ codes "\n"
 
 -- where the line of a place begins and ends
 abbrev pub line_start_of : List ℕ → ℕ → ℕ
@@ -50,15 +51,15 @@ token_within text at = min (length (token_in text at MOST_FAULTY)) (line_end_of 
 
 -- carets below these bytes as they are spelled, and one at least
 abbrev pub carets : List ℕ → List ℕ
-carets bytes = replicate (max (length (spelled bytes)) 1) 94
+carets bytes = replicate (max (length (spelled bytes)) 1) (code "^")
 
 abbrev pub blanks : List ℕ → List ℕ
-blanks bytes = replicate (length (spelled bytes)) 32
+blanks bytes = replicate (length (spelled bytes)) (code " ")
 
 -- the line of a place, and the margin of the next
 unfoldable pub line_shown : List ℕ → ℕ → List ℕ
 line_shown text at =
-    codes "    " ++ (spelled (slice_range text (line_start_of text at) (line_end_of text at)) ++ 10 ∷ codes "    ")
+    codes "    " ++ (spelled (slice_range text (line_start_of text at) (line_end_of text at)) ++ codes "\n    ")
 
 -- carets under as much of the token as is in the line
 unfoldable pub mark_shown : List ℕ → ℕ → List ℕ
@@ -66,7 +67,7 @@ mark_shown text at =
     blanks (slice_range text (line_start_of text at) at) ++ carets (slice_range text at (at + token_within text at))
 
 abbrev pub marked_line : List ℕ → ℕ → List ℕ
-marked_line text at = line_shown text at ++ (mark_shown text at ++ 10 ∷ [])
+marked_line text at = line_shown text at ++ (mark_shown text at ++ codes "\n")
 
 -- nothing of a text that has no such place
 abbrev pub line_there : List ℕ → ℕ → List ℕ
@@ -86,7 +87,7 @@ turns_shown turns = if length turns == 0 then [] else codes "; turns left:" ++ e
 
 -- the line of the iterations of the innermost text, if any is open
 abbrev pub here_shown : List (Option ℕ) → List ℕ
-here_shown turns = if length turns == 0 then [] else codes "here" ++ turns_shown turns ++ 10 ∷ []
+here_shown turns = if length turns == 0 then [] else codes "here" ++ turns_shown turns ++ codes "\n"
 
 abbrev pub turns_of_call : Option Call → List (Option ℕ)
 turns_of_call None = []
@@ -95,7 +96,7 @@ turns_of_call (Some call) = call.turns.items
 -- the line of an open call, of which k are later
 unfoldable pub call_line : KeptWalk → Place → ℕ → List ℕ
 call_line w place k =
-    call_shown place k (state_there w).registers w.text ++ turns_shown (turns_of_call (slice_get place.calls.items k)) ++ 10 ∷ []
+    call_shown place k (state_there w).registers w.text ++ turns_shown (turns_of_call (slice_get place.calls.items k)) ++ codes "\n"
 
 -- the lines of the latest so many of the open calls
 unfoldable pub call_lines : KeptWalk → Place → ℕ → List ℕ

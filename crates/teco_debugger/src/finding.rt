@@ -23,6 +23,7 @@ fn is_for(part: &Part, kind: ChangeKind) -> bool
 pub fn last_change(part: &Part, changes: &Changes) -> Option<u64>
     ensures { result ≡ last_change part.now changes.now }
 {
+    // A loop, since the changes are read by their places, from the last one on.
     let mut left = changes.len();
     while left > 0 {
         left -= 1;

@@ -135,6 +135,7 @@ impl Walk {
         ensures since { IfSome result (λ n. IsAsNowFrom (n + 1) part.now self.now) }
         ensures ever { IfNone result (IsAsNowFrom 0 part.now self.now) }
     {
+        // This shows that the changes lead from one state to the next.
         let _leads = self.session.editor();
         self.last_listed(part)
     }

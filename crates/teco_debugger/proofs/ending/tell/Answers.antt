@@ -1,5 +1,6 @@
-use Rattle.teco_debugger.proofs.Served.{tells_put}
+use Rattle.std.proofs.Common.{refl}
+use Rattle.teco_fs.proofs.Told.{told_by}
 use Rattle.teco_debugger.proofs.ending.tell.Goals as goal
 
 pub returns : goal.returns
-returns g c = tells_put c.put.result c.put.ensures
+returns g c = told_by c.put.result refl c.put.ensures

@@ -4,7 +4,8 @@ use Rattle.std.specs.String.{string_bytes}
 use Rattle.std.proofs.lemmas.Result.{on_ok_weaker}
 use Rattle.teco_messages.specs.Spelling.{spelled}
 use Rattle.teco_debugger.specs.Listing.{found_shown, last_shown}
-use Rattle.teco_debugger.proofs.Texts.{put_behind, three_from_right}
+use Rattle.teco_debugger.proofs.Texts.{three_from_right}
+use Rattle.teco_messages.proofs.Calls.{put_behind}
 use Rattle.teco_debugger.proofs.listing.show_last.Goals as goal
 use Rattle.teco_debugger.proofs.listing.show_last.Goals.{then-found, else-found}
 

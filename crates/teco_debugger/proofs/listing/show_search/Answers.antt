@@ -3,7 +3,7 @@ use Rattle.std.specs.Prelude.{OnOk, codes}
 use Rattle.std.specs.String.{string_bytes}
 use Rattle.teco_store.specs.State.{state_of}
 use Rattle.teco_debugger.specs.Listing.{last_search_shown, last_shown, search_shown}
-use Rattle.teco_debugger.proofs.Texts.{put_behind}
+use Rattle.teco_messages.proofs.Calls.{put_behind}
 use Rattle.teco_debugger.proofs.listing.show_search.Goals as goal
 
 pub returns-in-None : goal.returns-in-None

@@ -8,7 +8,8 @@ use Rattle.std.specs.String.{string_bytes}
 use Rattle.teco_core.specs.Register.{content}
 use Rattle.teco_messages.specs.Placed.{register_name}
 use Rattle.teco_debugger.specs.Listing.{held_shown}
-use Rattle.teco_debugger.proofs.Texts.{name_is_small, put_behind, three_texts}
+use Rattle.teco_debugger.proofs.Texts.{three_texts}
+use Rattle.teco_messages.proofs.Calls.{name_is_small, put_behind}
 use Rattle.teco_debugger.proofs.listing.show_value.Goals as goal
 
 pub returns : goal.returns

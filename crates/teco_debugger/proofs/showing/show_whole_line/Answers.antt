@@ -4,7 +4,8 @@ use Rattle.std.specs.Prelude.{codes, slice_range}
 use Rattle.std.specs.String.{string_bytes}
 use Rattle.teco_messages.specs.Spelling.{spelled}
 use Rattle.teco_debugger.specs.Showing.{line_end_of, line_shown, line_start_of}
-use Rattle.teco_debugger.proofs.Texts.{put_behind, three_from_right}
+use Rattle.teco_debugger.proofs.Texts.{three_from_right}
+use Rattle.teco_messages.proofs.Calls.{put_behind}
 use Rattle.teco_debugger.proofs.showing.show_whole_line.Goals as goal
 
 pub returns : goal.returns
