@@ -22,7 +22,7 @@ use Rattle.teco_check.specs.Walk.{wrong_with, rule}
 use Rattle.teco_check.specs.declared.faults.Wrong.TheVariants as wrongs
 use Rattle.teco_scan.specs.Tree.{Nodes}
 use Rattle.std.specs.Prelude.{not, ◌||◌, if◌then◌else◌}
-use Rattle.teco_check.proofs.Places.{none_more}
+use Rattle.teco_exec.proofs.Placings.{fillers_twice}
 
 operand_long : (f : Form) (m : Modifiers) (i : Instruction) (bs : List ℕ) (q : ℕ) (x : List ℕ) → SpellsOperand f m i bs → i ≡ step (set_text q x) → length x + 2 ≤ length bs
 operand_long f m i bs q x bare_spelled e = absurd cc
@@ -75,7 +75,7 @@ pub token_long : (spelled : (rows : List Row) → IsSpelled rows) (bs : List ℕ
 token_long spelled bs next t at e = of_kind t.kind refl
   where
     none : after_fillers (drop t.span.from bs) ≡ drop t.span.from bs
-    none = ap after_fillers at.begins ∙ none_more (drop next bs) ∙ sym at.begins
+    none = ap after_fillers at.begins ∙ fillers_twice (drop next bs) ∙ sym at.begins
 
     of_kind : (k : TokenKind) → t.kind ≡ k → t.span.from + inner_length k < t.span.to
     of_kind (kinds.Item (items.SetText q s)) is =
