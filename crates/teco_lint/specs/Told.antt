@@ -42,11 +42,11 @@ abbrev pub IsTold : (Remark → Bool) → List Remark → Type 0
 IsTold test remarks = (list_any test remarks ≡ true) ⊎ (MOST_REMARKS < length remarks)
 
 -- The remark is one of these: each test that it passes is passed by one of them. Or there are more than are told.
-abbrev pub Tells : List Remark → Remark → Type 0
-Tells remarks r = (test : Remark → Bool) → test r ≡ true → IsTold test remarks
+abbrev pub HasRemark : List Remark → Remark → Type 0
+HasRemark remarks r = (test : Remark → Bool) → test r ≡ true → IsTold test remarks
 
 -- What is told of a command string that begins at a place: its first fault, at its place. Where that is in a text which the string puts
 -- where code is, some fault is told.
 pub record TellsFirst (code : List Bool) (remarks : List Remark) (from : ℕ) (string : List ℕ) : Type 0 where
-  pub own : (f : Fault) → first_of code string ≡ Some f → is_in_text f.wrong ≡ false → Tells remarks (moved (own_fault (length string) f) from)
+  pub own : (f : Fault) → first_of code string ≡ Some f → is_in_text f.wrong ≡ false → HasRemark remarks (moved (own_fault (length string) f) from)
   pub some : is_some (first_of code string) ≡ true → IsTold is_fault remarks

@@ -1,5 +1,5 @@
 -- How a run ends: its status, and the line that it prints on standard error.
-use Rattle.std.specs.Prelude.{ℕ, List, [], ◌∷◌, ◌++◌, codes, min, length, Bool, true, Option, Some, None, is_some, if◌then◌else◌}
+use Rattle.std.specs.Prelude.{ℕ, List, [], ◌++◌, codes, min, length, Bool, true, Option, Some, None, is_some, if◌then◌else◌}
 use Rattle.std.specs.String.{string_bytes}
 use Rattle.teco_io.specs.declared.input.InputFault.{InputFault}
 use Rattle.teco_io.specs.declared.input.InputFault.TheVariants as input
@@ -38,12 +38,12 @@ spot_in source at = spot_of source (min at (length source))
 
 -- a line that ends by LF
 abbrev pub said : List ℕ → List ℕ
-said words = codes "tecol: " ++ words ++ 10 ∷ []
+said words = codes "tecol: " ++ words ++ codes "\n"
 
 -- the line of a caret at this place that cannot be read
 abbrev pub unreadable : List ℕ → Spot → List ℕ
 unreadable input spot = input ++ codes ":" ++ spot_shown spot
-    ++ codes ": a caret before what it cannot stand before" ++ 10 ∷ []
+    ++ codes ": a caret before what it cannot stand before" ++ codes "\n"
 
 -- what is told of an output that is written: what could not be kept, or nothing
 abbrev pub kept_text : TecolLine → Option Unkept → List ℕ
