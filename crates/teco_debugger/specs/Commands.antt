@@ -30,6 +30,7 @@ use Rattle.teco_debugger.specs.declared.walk.Seen.{Seen}
 use Rattle.teco_debugger.specs.declared.debugger.Debugger.{Debugger}
 use Rattle.teco_debugger.specs.declared.debugger.View.{View}
 use Rattle.teco_debugger.specs.declared.debugger.View.TheVariants.{Step, Where, Typed}
+use Prim.Native.Char.{code}
 
 -- a command: its word, the letter that stands for it, and what it takes
 pub record Verb : Type 0 where
@@ -75,7 +76,7 @@ taken (verb ∷ verbs) bytes = if is_spelled bytes verb then Some verb.takes els
 
 -- a space, or a control byte
 abbrev pub is_blank : ℕ → Bool
-is_blank b = nat_le b 32
+is_blank b = nat_le b (code " ")
 
 abbrev pub without_blanks_before : List ℕ → List ℕ
 without_blanks_before bytes = drop (prefix_len is_blank bytes) bytes
@@ -115,7 +116,7 @@ abbrev pub part_in : List ℕ → Result Part CommandFault
 part_in bytes = if pointwise nat_eq bytes (codes "text") then Ok part.Buffer else given part.Register (register_in bytes)
 
 abbrev pub is_colon : ℕ → Bool
-is_colon b = b == 58
+is_colon b = b == code ":"
 
 abbrev pub colon_in : List ℕ → ℕ
 colon_in bytes = prefix_len (λ b. not (is_colon b)) bytes
@@ -167,7 +168,7 @@ words_of TooMuch = codes "nothing is wanted after this command"
 
 -- a line that ends by LF
 abbrev pub answer_line : List ℕ → List ℕ
-answer_line words = words ++ 10 ∷ []
+answer_line words = words ++ codes "\n"
 
 -- This is shown, and nothing changes.
 abbrev pub OnlyShows : List ℕ → Debugger → Debugger → List ℕ → Type 0

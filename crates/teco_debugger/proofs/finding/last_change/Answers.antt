@@ -1,4 +1,4 @@
-use Rattle.std.proofs.Common.{◌≡◌, ◌∙◌, ◌+◌, ◌-◌, ◌<◌, Some, ap, false, get_or, length, sym, true, arith}
+use Rattle.std.proofs.Common.{◌≡◌, ◌∙◌, ◌-◌, ◌<◌, Some, ap, false, get_or, length, sym, true, arith}
 use Rattle.std.proofs.lemmas.List.{get_or_default}
 use Rattle.teco_store.specs.Kinds.{kind_of}
 use Rattle.teco_undo.specs.Listing.{no_note}
