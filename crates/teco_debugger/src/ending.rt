@@ -1,7 +1,6 @@
 //! How a run ends, and what is told of it.
 ghost use Rattle.std.specs.Prelude.{◌≡◌, ◌++◌, IfOk, OnErr};
 ghost use Rattle.std.specs.String.{string_bytes};
-ghost use Rattle.teco_fs.specs.Refusing.{Tells};
 ghost use Rattle.teco_debugger.specs.declared.reading.FileFault.TheVariants.{Unread};
 ghost use Rattle.teco_debugger.specs.Ending.{TellsEnding, ending_line, fault_words, input_name, status_of_ending, told_line};
 
@@ -9,7 +8,7 @@ use crate::line::DebuggerLine;
 use crate::reading::FileFault;
 use std::alloc::Global;
 use teco_core::NoMemory;
-use teco_fs::Reason;
+use teco_fs::{Reason, tell};
 use teco_io::Terminal;
 
 /// What is told if memory is refused to the program.
@@ -102,13 +101,6 @@ fn status(ending: Ending) -> u8
     }
 }
 
-/// Tells these bytes on standard error.
-fn tell<E: Terminal>(bytes: &[u8], errors: &mut E)
-    ensures { Tells (E.screen errors.old) (E.screen errors.new) bytes.now }
-{
-    let _ = errors.put(bytes);
-}
-
 /// Tells on standard error how a run ends, and gives the status.
 pub fn conclude<E: Terminal>(
     alloc: Global,
@@ -118,14 +110,7 @@ pub fn conclude<E: Terminal>(
 ) -> u8
     ensures { TellsEnding line.now ending (E.screen errors.old) (E.screen errors.new) result }
 {
-    match line_of(alloc, line, ending) {
-        Ok(text) => {
-            tell(text.as_bytes(), errors);
-            status(ending)
-        }
-        Err(NoMemory) => {
-            tell(NO_MEMORY, errors);
-            status(ending)
-        }
-    }
+    let text = line_of(alloc, line, ending).ok();
+    tell(&text, NO_MEMORY, errors);
+    status(ending)
 }

@@ -23,7 +23,7 @@ pub use memory_disk::{MemoryDisk, RefusedCall};
 pub use output::{Written, write_output};
 pub use piped::{Piped, UntilLeft};
 pub use reason::{Reason, reason_of, unless_memory};
-pub use refusing::{refuse, tell_no_memory};
+pub use refusing::{refuse, tell, tell_no_memory};
 pub use standard::hold_standard_streams;
 pub use target::Target;
 pub use unkept::Unkept;

@@ -8,7 +8,7 @@ use teco_cli::{LineFault, Refusal, RefusedAs, refused_status};
 use teco_io::{Terminal, TerminalFault};
 
 /// Tells a text, or, where memory was refused for it, the text for that.
-fn tell<E: Terminal>(text: &Option<String>, no_memory: &[u8], errors: &mut E)
+pub fn tell<E: Terminal>(text: &Option<String>, no_memory: &[u8], errors: &mut E)
     ensures { TellsText (Shows (E.screen errors.old) (E.screen errors.new)) no_memory.now text.now }
 {
     let _ = match text {
