@@ -1,7 +1,6 @@
 pub mod Checks
 pub mod CheckedRuns
 pub mod Runs
-pub mod Showing
 pub mod Streamed
 pub mod Doings
 pub mod CommandSources

@@ -1,5 +1,5 @@
 use Rattle.std.proofs.Common.{◌∙◌, inl, inr}
-use Rattle.teco_driver.proofs.Showing.{told_by}
+use Rattle.teco_fs.proofs.Told.{told_by}
 use Rattle.teco_driver.proofs.concluding.conclude.Goals as goal
 
 pub returns-in-Ok : goal.returns-in-Ok

@@ -1,6 +1,6 @@
 use Rattle.std.proofs.Common.{◌++◌, refl}
 use Rattle.teco_fs.specs.Writing.{both}
-use Rattle.teco_driver.proofs.Showing.{Shows-trans, front-after, front-longer}
+use Rattle.teco_io.proofs.Shown.{Shows-trans, front-after, front-longer}
 use Rattle.teco_driver.proofs.editing.put_on_terminal.Goals as goal
 
 pub returns-in-Err : goal.returns-in-Err
