@@ -2,6 +2,7 @@
 use Rattle.std.specs.Prelude.{◌≡◌, ◌⊎◌, ℕ, ◌+◌, ◌-◌, min, nat_eq, nat_le, nat_lt, Bool, true, false, ◌||◌, ◌==◌, not, if◌then◌else◌, List, [], ◌∷◌, ◌++◌, length, map, take, drop, slice_get, codes, Option, Some, None, Result, Ok, Err}
 use Rattle.std.specs.List.{prefix_len, suffix_len}
 use Rattle.std.specs.Fmt.{decimal}
+use Prim.Native.Char.{code}
 use lib.Pointwise.{pointwise}
 use Rattle.teco_core.specs.Register.{register_of}
 use Rattle.teco_messages.specs.declared.spot.Spot.{Spot}

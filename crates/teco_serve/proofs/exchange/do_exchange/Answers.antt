@@ -5,11 +5,13 @@ use Rattle.teco_io.specs.declared.terminal.TerminalFault.{TerminalFault}
 use Rattle.teco_session.specs.History.{History, present}
 use Rattle.teco_session.specs.Step.{Reply}
 use Rattle.teco_session.specs.declared.request.Request.TheVariants as request
+use Rattle.teco_io.proofs.Shown.{Shows-trans, front-after, front-longer, nonempty_before, nonempty_after}
+use Rattle.teco_fs.proofs.Writings.{on_err_by}
 use Rattle.teco_serve.specs.Cut.{value_of}
 use Rattle.teco_serve.specs.Message.{replies_shown, star}
-use Rattle.teco_serve.specs.Exchange.{BreaksOff, Exchange, exits}
-use Rattle.teco_serve.proofs.Exchanges.{exits_from, shown_exit, shown_on}
-use Rattle.teco_io.proofs.Shown.{Shows-trans, front-after, front-longer, nonempty_before, nonempty_after}
+use Rattle.teco_serve.specs.Exchange.{BreaksOff, Exchange, HasRung, Repeats, allowance, exits}
+use Rattle.teco_serve.proofs.Exchanges.{IsDone, exits_from, shown_exit, shown_on}
+use Rattle.teco_serve.proofs.exchange.do_exchange.Given as given
 use Rattle.teco_serve.proofs.exchange.do_exchange.Goals as goal
 use Rattle.teco_serve.proofs.exchange.do_exchange.Goals.{Joined-asked, in-Run, in-Undo, in-Redo, in-Rewind+in-Run-1, in-Rewind+in-Undo-1}
 
@@ -48,8 +50,8 @@ returns-in-Err g c =
       x,
       record { asked_is = refl; before_is = refl; after_is = refl; does = d.does },
       (
-        c.in-Err.ensures.err,
-        record { some = nonempty_before (replies_shown d.0) rest d.3; front = d.2.0; beginning = front-longer d.2.0 (replies_shown d.0) rest d.2.1; shows = d.2.2 },
+        d.no_exit,
+        record { some = nonempty_before (replies_shown d.replies) rest d.some; front = d.puts.0; beginning = front-longer d.puts.0 (replies_shown d.replies) rest d.puts.1; shows = d.puts.2 },
       ),
     )
 
@@ -84,10 +86,10 @@ returns-in-Err-show_prompt g c =
       (
         on,
         subst (λ l. BreaksOff (Shows (g.T.Terminal.screen c.args.term.now) (g.T.Terminal.screen c.show_prompt.new.term)) [] l) (sym shown) (record {
-          some = nonempty_after (replies_shown d.0) (star c.args.settings.prompt) c.in-Err-show_prompt.ensures.some;
-          front = replies_shown d.0 ++ p.0;
-          beginning = front-after (replies_shown d.0) p.0 (star c.args.settings.prompt) p.1;
-          shows = Shows-trans d.2 p.2;
+          some = nonempty_after (replies_shown d.replies) (star c.args.settings.prompt) c.in-Err-show_prompt.ensures.some;
+          front = replies_shown d.replies ++ p.0;
+          beginning = front-after (replies_shown d.replies) p.0 (star c.args.settings.prompt) p.1;
+          shows = Shows-trans d.puts p.2;
         }),
       ),
     )

@@ -2,13 +2,14 @@ use Rattle.std.proofs.Common.{◌≡◌, [], ◌∷◌, ◌++◌, Some, true, fa
 use Rattle.teco_session.specs.Answers.{string_outcome}
 use Rattle.teco_session.specs.Kept.{history_of}
 use Rattle.teco_session.specs.Step.{Reply, RunStep, is_terminal_failure}
-use Rattle.teco_session.proofs.Running.{unbroken}
+use Rattle.std.proofs.lemmas.Result.{on_err_weaker}
+use Rattle.teco_exec.proofs.Continuations.{unbroken}
+use Rattle.teco_io.proofs.Shown.{Puts-after}
 use Rattle.teco_io.specs.Terminal.{Shows, Puts}
 use Rattle.teco_serve.specs.Exchange.{HasRung, allowance}
 use Rattle.teco_serve.specs.Message.{message}
-use Rattle.std.proofs.lemmas.Result.{on_err_weaker}
-use Rattle.teco_io.proofs.Shown.{Puts-after}
-use Rattle.teco_serve.proofs.Exchanges.{failure-some, message-no_exit, message-some}
+use Rattle.teco_serve.proofs.Exchanges.{HasRun, failure-some, message-no_exit, message-some, runs_allowed}
+use Rattle.teco_serve.proofs.exchange.run_text.Given as given
 use Rattle.teco_serve.proofs.exchange.run_text.Goals as goal
 use Rattle.teco_serve.proofs.exchange.run_text.Goals.{Joined-bounds, in-Some, in_default+then-wants_place, in_default+else-wants_place}
 
@@ -63,8 +64,8 @@ returns g c =
         (reply, refl, run.ran),
         subst (λ l. Puts (g.T.Terminal.screen c.args.term.now) (g.T.Terminal.screen c.show_ending.new.term) l c.show_ending.result) (sym (append-nil (run.typed ++ message reply.answer)))
             (Puts-after (g.T.Terminal.screen c.show_ending.new.term) (message reply.answer) c.show_ending.result
-            (subst (λ b. Shows (g.T.Terminal.screen c.args.term.now) (g.T.Terminal.screen c.run_heard-answered.new.term) ran.0 b) well ran.2) c.show_ending.ensures.puts),
+            (subst (λ b. Shows (g.T.Terminal.screen c.args.term.now) (g.T.Terminal.screen c.match-bounds.term) run.typed b) well run.shows) c.show_ending.ensures.puts),
         on_err_weaker c.show_ending.result (message-some reply) c.show_ending.ensures.some,
       );
-  err = on_err_weaker c.show_ending.result (λ some. message-no_exit c.args.text.now (history_of c.args.session.now) (history_of c.run_heard-answered.new.session) c.run_heard-answered.result.answer some c.run_heard-answered.ensures.exit) c.show_ending.ensures.some;
-}
+      err = on_err_weaker c.show_ending.result (λ some. message-no_exit c.args.text.now (history_of c.args.session.now) (history_of c.match-bounds.session) reply.answer some run.exit) c.show_ending.ensures.some;
+    }
