@@ -209,21 +209,17 @@ impl Walk {
     {
         let alloc = self.alloc();
         let mut terminal = MemoryTerminal::new(alloc);
-        let mut watch = Watched::new(alloc);
-        let outcome = run_with(
-            editor,
-            self.text.as_slice(),
-            &mut terminal,
-            Options {
-                limit: n,
-                stop: &mut Never,
-                watch: &mut watch,
-            },
-        );
+        let watch = Watched::new(alloc);
+        let options = Options {
+            limit: n,
+            stop: &mut Never,
+        };
+        let ran = run_with(editor, self.text.as_slice(), &mut terminal, options, watch);
+        let outcome = ran.outcome;
         if lacks_memory(outcome.code) {
             return Err(NoMemory);
         }
-        let place = watch.into_place()?;
+        let place = ran.watch.into_place()?;
         Ok(Seen {
             outcome,
             place,

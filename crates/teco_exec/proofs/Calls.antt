@@ -1,17 +1,19 @@
 -- Texts that are called: how their copy begins, and what their end is to the text that called.
-use Rattle.std.proofs.Common.{◌≡◌, ℕ, true, false, is_some, ◌+◌, ◌<◌, ◌≤◌, List, ◌∷◌, length, Option, Some, None, refl, arith}
+use Rattle.std.proofs.Common.{◌≡◌, ℕ, true, is_some, ◌+◌, ◌<◌, ◌≤◌, List, ◌∷◌, length, Option, Some, None, refl, sym, subst}
 use Rattle.teco_core.specs.Arguments.{Arguments}
 use Rattle.teco_core.specs.declared.code.Code.{Code}
 use Rattle.teco_store.specs.State.{State}
 use Rattle.teco_store.specs.Trail.{Trail, most_changes, moved, stepped}
 use Rattle.teco_exec.specs.Machine.{Caller}
-use Rattle.teco_exec.specs.Places.{Told}
-use Rattle.teco_exec.specs.Running.{Host, Origin, Reaches, ReachesContinuation, RunGoesOn, Tells, at_beginning, at_register_call, code_left, reached_after_call, reached_by_exit}
+use Rattle.teco_scan.specs.Breaks.{IsTokenPlace}
+use Rattle.teco_exec.specs.CursorMoves.{Frame}
+use Rattle.teco_exec.specs.Places.{Told, with_call}
+use Rattle.teco_exec.specs.Running.{caller, Host, Origin, Reaches, ReachesContinuation, RunGoesOn, Tells, at_beginning, at_register_call, code_left, reached_after_call, reached_by_exit}
 use Rattle.teco_exec.specs.View.{cursor}
 use Rattle.teco_exec.specs.declared.cursor.Cursor.{Cursor}
 use Rattle.teco_exec.specs.declared.flow.Exit.{Exit}
 use Rattle.teco_exec.specs.declared.flow.Exit.TheVariants as ending
-use Rattle.teco_exec.proofs.Continuations.{caller, enters}
+use Rattle.teco_exec.proofs.Continuations.{enters}
 use Rattle.teco_exec.proofs.Going.{host_of}
 use Rattle.teco_exec.proofs.Stepped.{call_leads, text_in}
 
@@ -40,17 +42,11 @@ tells_on knows P Q ending.Over done t on = t
 tells_on knows P Q (ending.Fail code) done t on = (t.0, t.1, t.2, on t.0 t.3)
 tells_on knows P Q (ending.Stop code) done t on = (t.0, t.1, t.2, on t.0 t.3)
 
--- A text that ends by no code tells nothing.
-pub tells_nothing : (knows : Option Told → Type 0) (P Q : Told → Type 0) (x : Exit) (done : ℕ) → is_some (code_left x) ≡ false → Tells knows x done P → Tells knows x done Q
-tells_nothing knows P Q ending.Return done none t = t
-tells_nothing knows P Q ending.Over done none t = t
-tells_nothing knows P Q (ending.Fail code) done none t = absurd cc
-tells_nothing knows P Q (ending.Stop code) done none t = absurd cc
-
--- One that ends by a code has told a place, and the call is told then.
-pub tells_call : (knows after : Option Told → Type 0) (P Q : Told → Type 0) (x : Exit) (done : ℕ) → is_some (code_left x) ≡ true → Tells knows x done P
-    → ((p : Told) → knows (Some p) → P p → (r : Told) × after (Some r) × (r.steps ≡ p.steps) × Q r) → Tells after x done Q
-tells_call knows after P Q ending.Return done some t call = absurd cc
-tells_call knows after P Q ending.Over done some t call = absurd cc
-tells_call knows after P Q (ending.Fail code) done some t call = let r = call t.0 t.1 t.3 in (r.0, r.1, omega (arith, r.2, t.2), r.3)
-tells_call knows after P Q (ending.Stop code) done some t call = let r = call t.0 t.1 t.3 in (r.0, r.1, omega (arith, r.2, t.2), r.3)
+-- A text that ends by no code has told nothing; one that ends by a code has told a place, and the call is told then.
+pub tells_around : {W : Type 0} (k : W → Option Told → Type 0) (old new : W) (P Q : Told → Type 0) (x : Exit) (done : ℕ) (text : List ℕ) (at q : ℕ) (blocks : List Frame)
+    → (code_left x ≡ None → new ≡ old) → (is_some (code_left x) ≡ true → (p : Told) → k old (Some p) → (to : ℕ) × IsTokenPlace text at to × k new (Some (with_call p q to blocks)))
+    → Tells (k old) x done P → ((p : Told) (to : ℕ) → P p → IsTokenPlace text at to → Q (with_call p q to blocks)) → Tells (k new) x done Q
+tells_around k old new P Q ending.Return done text at q blocks none some t on = subst (λ w. k w None) (sym (none refl)) t
+tells_around k old new P Q ending.Over done text at q blocks none some t on = subst (λ w. k w None) (sym (none refl)) t
+tells_around k old new P Q (ending.Fail code) done text at q blocks none some t on = let m = some refl t.0 t.1 in (with_call t.0 q m.0 blocks, m.2, t.2, on t.0 m.0 t.3 m.1)
+tells_around k old new P Q (ending.Stop code) done text at q blocks none some t on = let m = some refl t.0 t.1 in (with_call t.0 q m.0 blocks, m.2, t.2, on t.0 m.0 t.3 m.1)

@@ -8,7 +8,7 @@ use Rattle.teco_scan.specs.declared.token.Found.TheVariants.{Token}
 use Rattle.teco_exec.specs.CursorMoves.{Cursor as MachineCursor, pass}
 use Rattle.teco_exec.specs.Machine.{Caller, Config, block, Now, runs, halts, ready_where_comes, ready_of, after_text_end, step, faulty, run_within}
 use Rattle.teco_exec.specs.View.{cursor_at_start, coming_of, cursor, item_of_kind, block_step_of}
-use Rattle.teco_exec.specs.Running.{goes, over, stops, config, ready_run, at_cursor, at_token, at_block_step, at_return, Origin, Host, Continuation, RunGoesOn, Alike, sight, ReachesContinuation, ReachesEnd, at_beginning, at_call, cursor_after_call, Reaches, code_left, reached_by_exit, reached_after_call, now_at, whole_run, ended_by}
+use Rattle.teco_exec.specs.Running.{caller, goes, over, stops, config, ready_run, at_cursor, at_token, at_block_step, at_return, Origin, Host, Continuation, RunGoesOn, Alike, sight, ReachesContinuation, ReachesEnd, at_beginning, at_call, cursor_after_call, Reaches, code_left, reached_by_exit, reached_after_call, now_at, whole_run, ended_by}
 use Rattle.teco_exec.specs.Runs.{Answers, IsBrokenOff, RunsWithin, never_asks}
 use Rattle.teco_exec.specs.declared.cursor.Cursor.{Cursor}
 use Rattle.teco_exec.specs.declared.moves.BlockStep.{BlockStep}
@@ -84,10 +84,6 @@ begins o h a text c callers same e g =
     continues o h (at_beginning a text callers) g (at_cursor c callers) (λ now.
     alike (ap (λ x. ready_of (runs (config x (cursor_at_start a text) None callers now))) (sym same)
     ∙ ap (λ x. ready_of (runs (config c.text.now x None callers now))) (sym e)))
-
--- a text that has called another
-abbrev pub caller : Cursor → Caller
-caller c = record { text = c.text.now; left = (cursor c).left; blocks = (cursor c).blocks }
 
 module _ (o : Origin) (h : Host) (c : Cursor) (text : List ℕ) (callers : List Caller) (g : RunGoesOn o h (at_call c text callers)) where
   abbrev chosen : Bool → Continuation

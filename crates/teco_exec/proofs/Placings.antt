@@ -11,7 +11,7 @@ use Rattle.teco_exec.specs.Places.{CallToken, HaveCalled, IsCallOf, IsPlaceAfter
 use Rattle.teco_core.specs.Arguments.{Arguments}
 use Rattle.teco_core.specs.declared.code.Code.{Code}
 use Rattle.std.specs.declared.alloc.AllocError.{AllocError}
-use Rattle.teco_exec.specs.Running.{Host, Origin, Reaches, RunGoesOn, StandsSomewhere, StandsWhereTold, Tells, at_register_call, code_left, ended_by, reached_by_exit}
+use Rattle.teco_exec.specs.Running.{caller, Host, Origin, Reaches, RunGoesOn, StandsSomewhere, StandsWhereTold, Tells, at_register_call, code_left, ended_by, reached_by_exit}
 use Rattle.teco_exec.specs.Telling.{IsLastPlace, KnowsLast, call_told, told_of}
 use Rattle.teco_exec.specs.declared.place.Call.{Call}
 use Rattle.teco_exec.specs.declared.place.Place.{Place}
@@ -21,7 +21,6 @@ use Rattle.teco_exec.specs.declared.cursor.Cursor.{Cursor}
 use Rattle.teco_exec.specs.declared.flow.Exit.{Exit}
 use Rattle.teco_exec.specs.declared.flow.Exit.TheVariants as ending
 use Rattle.teco_exec.specs.declared.watch.Watched.{Watched}
-use Rattle.teco_exec.proofs.Continuations.{caller}
 
 -- Fillers are passed once.
 twice_by : (b : ℕ) (bs : List ℕ) (x : Bool) → is_filler b ≡ x → after_fillers (after_fillers bs) ≡ after_fillers bs → after_fillers (if x then after_fillers bs else b ∷ bs) ≡ (if x then after_fillers bs else b ∷ bs)

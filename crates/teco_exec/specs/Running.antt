@@ -1,5 +1,5 @@
 -- A run of a whole string, as it is seen at a moment, and where it goes on from there.
-use Rattle.std.specs.Prelude.{◌≡◌, ◌≢◌, ◌<◌, ℕ, zero, suc, ◌+◌, ◌-◌, List, [], false, Option, Some, None, drop, length}
+use Rattle.std.specs.Prelude.{◌≡◌, ◌≢◌, ◌<◌, ℕ, zero, suc, ◌+◌, ◌-◌, List, [], ◌∷◌, false, Option, Some, None, drop, length}
 use Rattle.teco_core.specs.Arguments.{Arguments}
 use Rattle.teco_core.specs.ArgumentsView.{arguments}
 use Rattle.teco_core.specs.declared.code.Code.{Code}
@@ -362,3 +362,14 @@ abbrev pub StandsFrom : {D T : Type 0} → DeskView D → TerminalView T → ℕ
 StandsFrom desk terminal depth old from p =
     (o : Origin) (callers : List Caller) → length callers ≡ depth
     → RunGoesOn o (host desk terminal old) (from callers) → StandsWhereTold o callers p
+
+-- a text that has called another
+abbrev pub caller : Cursor → Caller
+caller c = record { text = c.text.now; left = (cursor c).left; blocks = (cursor c).blocks }
+
+-- The same, where this cursor's text has called that of a register, of a place inside of that.
+abbrev pub StandsInside : {D T : Type 0} → DeskView D → TerminalView T → ℕ → D × T × Steps
+    → Cursor → ℕ → Told → Type 0
+StandsInside desk terminal depth old c q p =
+    (o : Origin) (callers : List Caller) → length callers ≡ depth
+    → RunGoesOn o (host desk terminal old) (at_register_call c q callers) → StandsWhereTold o (caller c ∷ callers) p

@@ -22,15 +22,13 @@ const SPARE_LIMIT: usize = 4096;
 /// The room of a copy that is no longer run, for the next one.
 #[derive(Drop)]
 pub(crate) struct Spare {
-    /// What the tags of a text are gathered in, if many are looked for.
-    pub memory: Option<Global>,
     room: Option<Vec<u8>>,
 }
 
 impl Spare {
     /// There is no room yet. Takes no memory.
-    pub fn new(memory: Option<Global>) -> Spare {
-        Spare { memory, room: None }
+    pub fn new() -> Spare {
+        Spare { room: None }
     }
 
     /// A copy of a text. It takes memory only if there is no room for it.

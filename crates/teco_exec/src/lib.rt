@@ -22,7 +22,7 @@ mod texts;
 mod watch;
 
 pub use laws::{machine_laws, meaning_laws};
-pub use options::Options;
+pub use options::{Options, Ran};
 pub use outcome::Outcome;
 pub use place::{Call, Place};
 pub use running::{run, run_with};

@@ -1,11 +1,17 @@
-//! How a command string is to be run.
+//! How a command string is to be run, and how it was.
+use crate::outcome::Outcome;
 
-/// How a command string is to be run: for how many steps at most, who may ask it to stop, and who is told where it last stood.
-///
-/// Where nobody asks and nobody watches, these are [`crate::Never`] and [`crate::Unwatched`]: they cost nothing.
+/// How far a command string may run: for how many steps at most, and who may ask it to stop. Where nobody asks, that is
+/// [`crate::Never`], which costs nothing.
 #[derive(Drop)]
-pub struct Options<'a, S, W> {
+pub struct Options<'a, S> {
     pub limit: u64,
     pub stop: &'a mut S,
-    pub watch: &'a mut W,
+}
+
+/// How a command string was run: how it ended, and who was told where it last stood.
+#[derive(Drop)]
+pub struct Ran<W> {
+    pub outcome: Outcome,
+    pub watch: W,
 }

@@ -1,6 +1,6 @@
 //! The run of a command string.
 ghost use Rattle.std.specs.Prelude.{None};
-ghost use Rattle.teco_exec.specs.Options.{stop_left, watch_left};
+ghost use Rattle.teco_exec.specs.Options.{stop_left};
 ghost use Rattle.teco_exec.specs.Runs.{RunsWithin, StillSays};
 ghost use Rattle.teco_exec.specs.RunsOn.{RunsOn};
 ghost use Rattle.teco_exec.specs.Telling.{KnowsLast};
@@ -8,13 +8,12 @@ ghost use Rattle.teco_exec.specs.Telling.{KnowsLast};
 use crate::called::Spare;
 use crate::flow::Steps;
 use crate::laws::{machine_laws, meaning_laws};
-use crate::options::Options;
+use crate::options::{Options, Ran};
 use crate::outcome::Outcome;
 use crate::stop::{Never, Stop};
-use crate::texts::{EMPTY_ROOM, ROOMS, run_text};
+use crate::texts::{EMPTY_ROOM, ROOMS, Running, run_in};
 use crate::watch::{Unwatched, Watch};
-use std::alloc::Global;
-use teco_core::{Args, Reg};
+use teco_core::Args;
 use teco_io::Terminal;
 use teco_store::Desk;
 
@@ -31,9 +30,8 @@ pub fn run<D: Desk, T: Terminal>(desk: &mut D, text: &[u8], limit: u64, term: &m
     let options = Options {
         limit,
         stop: &mut Never,
-        watch: &mut Unwatched,
     };
-    run_with(desk, text, term, options)
+    run_with(desk, text, term, options, Unwatched).outcome
 }
 
 /// Runs a command string as [`run`] does, by these options. Before each step that counts, and before one that would be past the limit,
@@ -47,32 +45,49 @@ pub fn run_with<D: Desk, S: Stop, T: Terminal, W: Watch>(
     desk: &mut D,
     text: &[u8],
     term: &mut T,
-    options: Options<'_, S, W>,
-) -> Outcome
-    ensures run { RunsWithin (S.answered (stop_left options.exit)) options.entry.limit result
-        (RunsOn D.Desk T.Terminal (desk.old, term.old) (desk.new, term.new) text.now result) }
+    options: Options<'_, S>,
+    watch: W,
+) -> Ran<W>
+    ensures run { RunsWithin (S.answered (stop_left options.exit)) options.entry.limit result.outcome
+        (RunsOn D.Desk T.Terminal (desk.old, term.old) (desk.new, term.new) text.now result.outcome) }
     ensures still { StillSays (S.answered options.entry.stop.now) (S.answered (stop_left options.exit)) }
-    ensures told { W.knows options.entry.watch.now None
-        → KnowsLast (W.knows (watch_left options.exit)) (D.state desk.old) text.now result }
+    ensures told { W.knows watch None
+        → KnowsLast (W.knows result.watch) (D.state desk.old) text.now result.outcome }
+{
+    let Options { limit, stop } = options;
+    run_watched(desk, text, limit, stop, term, watch)
+}
+
+/// Runs a command string as [`run_with`] does.
+fn run_watched<D: Desk, S: Stop, T: Terminal, W: Watch>(
+    desk: &mut D,
+    text: &[u8],
+    limit: u64,
+    stop: &mut S,
+    term: &mut T,
+    watch: W,
+) -> Ran<W>
+    ensures run { RunsWithin (S.answered stop.new) limit result.outcome
+        (RunsOn D.Desk T.Terminal (desk.old, term.old) (desk.new, term.new) text.now result.outcome) }
+    ensures still { StillSays (S.answered stop.old) (S.answered stop.new) }
+    ensures told { W.knows watch None
+        → KnowsLast (W.knows result.watch) (D.state desk.old) text.now result.outcome }
 {
     machine_laws();
     meaning_laws();
-    let Options { limit, stop, watch } = options;
     let mut args = Args::new();
-    let mut steps = Steps { done: 0, limit };
-    let mut spare = Spare::new(memory_of(desk));
     let mut rooms = [EMPTY_ROOM; ROOMS];
-    let exit = run_text(
-        desk, text, 0, &mut args, &mut rooms, &mut steps, &mut spare, stop, term, watch,
-    );
-    Outcome {
+    let mut running = Running {
+        steps: Steps { done: 0, limit },
+        depth: 0,
+        spare: Spare::new(),
+        watch,
+    };
+    let exit = run_in(desk, text, &mut args, &mut rooms, &mut running, stop, term);
+    let Running { steps, watch, .. } = running;
+    let outcome = Outcome {
         code: exit.code(),
         steps: steps.done,
-    }
-}
-
-/// The memory that the texts of the registers are in.
-fn memory_of<D: Desk>(desk: &D) -> Option<Global> {
-    let register = Reg::of(b'A')?;
-    Some(*desk.registers().value(register).text.allocator())
+    };
+    Ran { outcome, watch }
 }

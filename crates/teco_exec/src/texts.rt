@@ -1,11 +1,12 @@
 //! The run of a text, and of the texts that it calls.
-ghost use Rattle.std.specs.Prelude.{◌≡◌, ◌≤◌, ◌<◌, Some, length, true, false, None};
+ghost use Rattle.std.specs.Prelude.{◌≡◌, ◌≤◌, ◌<◌, ℕ, [], Some, is_some, length, true, false, None};
 ghost use Rattle.teco_core.specs.ArgumentsView.{arguments};
 ghost use Rattle.teco_core.specs.Register.{content};
 ghost use Rattle.teco_core.specs.declared.code.Code.TheVariants.{Lim, Mem};
 ghost use Rattle.teco_scan.specs.Lists.{nodes};
-ghost use Rattle.teco_exec.specs.Places.{IsReadAt, call_token};
-ghost use Rattle.teco_exec.specs.Running.{RunLeadsAt, StandsFrom, Tells, code_left, at_beginning, at_register_call, reached_by_exit, reached_after_call};
+ghost use Rattle.teco_scan.specs.Breaks.{IsTokenPlace};
+ghost use Rattle.teco_exec.specs.Places.{IsReadAt, Told, call_token, with_call};
+ghost use Rattle.teco_exec.specs.Running.{RunLeadsAt, StandsFrom, StandsInside, Tells, code_left, at_beginning, at_register_call, reached_by_exit, reached_after_call};
 ghost use Rattle.teco_exec.specs.Tokens.{CountsSteps};
 ghost use Rattle.teco_exec.specs.View.{cursor as cursor_of};
 ghost use Rattle.teco_exec.specs.Quiet.{takes_no_memory};
@@ -18,6 +19,7 @@ use crate::dispatch::step;
 use crate::flow::{Exit, Flow, Steps};
 use crate::stop::Stop;
 use crate::watch::Watch;
+use std::alloc::Global;
 use teco_core::{Args, BLOCK_LIMIT, CALL_LIMIT, Code, Reg};
 use teco_io::Terminal;
 use teco_store::Desk;
@@ -33,41 +35,51 @@ pub(crate) const EMPTY_ROOM: Room = [Block {
 /// How many rooms are made at once: for a text, and for one that it calls.
 pub(crate) const ROOMS: usize = 2;
 
-/// Runs a text at this depth of calls, from its beginning, with these arguments. Where it returns, `args` are what it leaves.
+/// What a run has of its own: its steps, how deep in calls its text lies, what is spare for copies, and who watches.
+#[derive(Drop)]
+pub(crate) struct Running<W> {
+    pub steps: Steps,
+    pub depth: usize,
+    pub spare: Spare,
+    pub watch: W,
+}
+
+/// A command that calls the text of a register, and where it begins.
+#[derive(Clone, Copy)]
+struct CallSite {
+    register: Reg,
+    at: usize,
+}
+
+/// Runs a text from its beginning, with these arguments. Where it returns, `args` are what it leaves.
 ///
 /// Its open blocks, and those of the texts that it calls, lie in these rooms, so that a call clears none. If there is none left, new ones
 /// are made.
 #[cycle(run_text)]
 #[inline(always)]
-pub(crate) fn run_text<D: Desk, S: Stop, T: Terminal, W: Watch>(
+fn run_text<D: Desk, S: Stop, T: Terminal, W: Watch>(
     desk: &mut D,
     text: &[u8],
-    depth: usize,
     args: &mut Args,
     rooms: &mut [Room],
-    steps: &mut Steps,
-    spare: &mut Spare,
+    running: &mut Running<W>,
     stop: &mut S,
     term: &mut T,
-    watch: &mut W,
 ) -> Exit
-    requires { depth ≤ CALL_LIMIT }
+    requires { running.old.depth ≤ CALL_LIMIT }
     ensures counts { CountsSteps (S.answered stop.old) (S.answered stop.new) (result ≡ exit.Stop Lim)
-        steps.old steps.new }
-    ensures leads { RunLeadsAt D.Desk T.Terminal depth (desk.old, term.old, steps.old) (desk.new, term.new, steps.new)
-        (at_beginning (arguments args.old) text.now)
-        (λ callers. reached_by_exit (arguments args.new) callers result) }
+        running.old.steps running.new.steps }
+    ensures depth { running.new.depth ≡ running.old.depth }
+    ensures leads { RunLeadsAt D.Desk T.Terminal running.old.depth (desk.old, term.old, running.old.steps)
+        (desk.new, term.new, running.new.steps) (at_beginning (arguments args.old) text.now) (λ callers. reached_by_exit (arguments args.new) callers result) }
     ensures no_memory { takes_no_memory (nodes text.now) ≡ true → code_left result ≡ Some Mem → ⊥ }
-    ensures told { W.knows watch.old None → Tells (W.knows watch.new) result steps.new.done
-        (StandsFrom D.Desk T.Terminal depth (desk.old, term.old, steps.old)
-        (at_beginning (arguments args.old) text.now)) }
+    ensures told { W.knows running.old.watch None → Tells (W.knows running.new.watch) result running.new.steps.done
+        (StandsFrom D.Desk T.Terminal running.old.depth (desk.old, term.old, running.old.steps) (at_beginning (arguments args.old) text.now)) }
 {
-    match rooms.split_first_mut() {
-        Some((room, rooms)) => run_in(
-            desk, text, depth, args, room, rooms, steps, spare, stop, term, watch,
-        ),
-        None => run_apart(desk, text, depth, args, steps, spare, stop, term, watch),
+    if rooms.is_empty() {
+        return run_apart(desk, text, args, running, stop, term);
     }
+    run_in(desk, text, args, rooms, running, stop, term)
 }
 
 /// Runs a text as `run_text` does, in new rooms.
@@ -76,77 +88,58 @@ pub(crate) fn run_text<D: Desk, S: Stop, T: Terminal, W: Watch>(
 fn run_apart<D: Desk, S: Stop, T: Terminal, W: Watch>(
     desk: &mut D,
     text: &[u8],
-    depth: usize,
     args: &mut Args,
-    steps: &mut Steps,
-    spare: &mut Spare,
+    running: &mut Running<W>,
     stop: &mut S,
     term: &mut T,
-    watch: &mut W,
 ) -> Exit
-    requires { depth ≤ CALL_LIMIT }
+    requires { running.old.depth ≤ CALL_LIMIT }
     ensures counts { CountsSteps (S.answered stop.old) (S.answered stop.new) (result ≡ exit.Stop Lim)
-        steps.old steps.new }
-    ensures leads { RunLeadsAt D.Desk T.Terminal depth (desk.old, term.old, steps.old) (desk.new, term.new, steps.new)
-        (at_beginning (arguments args.old) text.now)
-        (λ callers. reached_by_exit (arguments args.new) callers result) }
+        running.old.steps running.new.steps }
+    ensures depth { running.new.depth ≡ running.old.depth }
+    ensures leads { RunLeadsAt D.Desk T.Terminal running.old.depth (desk.old, term.old, running.old.steps)
+        (desk.new, term.new, running.new.steps) (at_beginning (arguments args.old) text.now) (λ callers. reached_by_exit (arguments args.new) callers result) }
     ensures no_memory { takes_no_memory (nodes text.now) ≡ true → code_left result ≡ Some Mem → ⊥ }
-    ensures told { W.knows watch.old None → Tells (W.knows watch.new) result steps.new.done
-        (StandsFrom D.Desk T.Terminal depth (desk.old, term.old, steps.old)
-        (at_beginning (arguments args.old) text.now)) }
+    ensures told { W.knows running.old.watch None → Tells (W.knows running.new.watch) result running.new.steps.done
+        (StandsFrom D.Desk T.Terminal running.old.depth (desk.old, term.old, running.old.steps) (at_beginning (arguments args.old) text.now)) }
 {
-    let mut room = EMPTY_ROOM;
     let mut rooms = [EMPTY_ROOM; ROOMS];
-    run_in(
-        desk, text, depth, args, &mut room, &mut rooms, steps, spare, stop, term, watch,
-    )
+    run_in(desk, text, args, &mut rooms, running, stop, term)
 }
 
-/// Runs a text as `run_text` does, with this room for its open blocks, and these for the texts that it calls.
+/// Runs a text as `run_text` does, in the first of these rooms. The texts that it calls have the others.
 #[cycle(run_text)]
-fn run_in<D: Desk, S: Stop, T: Terminal, W: Watch>(
+pub(crate) fn run_in<D: Desk, S: Stop, T: Terminal, W: Watch>(
     desk: &mut D,
     text: &[u8],
-    depth: usize,
     args: &mut Args,
-    room: &mut Room,
     rooms: &mut [Room],
-    steps: &mut Steps,
-    spare: &mut Spare,
+    running: &mut Running<W>,
     stop: &mut S,
     term: &mut T,
-    watch: &mut W,
 ) -> Exit
-    requires { depth ≤ CALL_LIMIT }
+    requires room { rooms.old ≡ [] → ⊥ }
+    requires deep { running.old.depth ≤ CALL_LIMIT }
     ensures counts { CountsSteps (S.answered stop.old) (S.answered stop.new) (result ≡ exit.Stop Lim)
-        steps.old steps.new }
-    ensures leads { RunLeadsAt D.Desk T.Terminal depth (desk.old, term.old, steps.old) (desk.new, term.new, steps.new)
-        (at_beginning (arguments args.old) text.now)
-        (λ callers. reached_by_exit (arguments args.new) callers result) }
+        running.old.steps running.new.steps }
+    ensures depth { running.new.depth ≡ running.old.depth }
+    ensures leads { RunLeadsAt D.Desk T.Terminal running.old.depth (desk.old, term.old, running.old.steps)
+        (desk.new, term.new, running.new.steps) (at_beginning (arguments args.old) text.now) (λ callers. reached_by_exit (arguments args.new) callers result) }
     ensures no_memory { takes_no_memory (nodes text.now) ≡ true → code_left result ≡ Some Mem → ⊥ }
-    ensures told { W.knows watch.old None → Tells (W.knows watch.new) result steps.new.done
-        (StandsFrom D.Desk T.Terminal depth (desk.old, term.old, steps.old)
-        (at_beginning (arguments args.old) text.now)) }
+    ensures told { W.knows running.old.watch None → Tells (W.knows running.new.watch) result running.new.steps.done
+        (StandsFrom D.Desk T.Terminal running.old.depth (desk.old, term.old, running.old.steps) (at_beginning (arguments args.old) text.now)) }
 {
-    let mut cursor = Cursor::begin(text, *args, room, spare.memory);
+    let Some((room, rooms)) = rooms.split_first_mut() else {
+        unreachable!();
+    };
+    let mut cursor = Cursor::begin(text, *args, room, memory_of(desk));
     'running: loop {
         let at = cursor.at;
-        match step::<D, S, T, W>(desk, &mut cursor, steps, stop, term) {
+        match step::<D, S, T, W>(desk, &mut cursor, &mut running.steps, stop, term) {
             Flow::On => continue 'running,
-            Flow::Call(q) => {
-                match run_called(
-                    desk,
-                    q,
-                    depth,
-                    &mut cursor,
-                    at,
-                    rooms,
-                    steps,
-                    spare,
-                    stop,
-                    term,
-                    watch,
-                ) {
+            Flow::Call(register) => {
+                let site = CallSite { register, at };
+                match run_called(desk, site, &mut cursor, rooms, running, stop, term) {
                     Exit::Return => continue 'running,
                     exit => return exit,
                 }
@@ -157,144 +150,136 @@ fn run_in<D: Desk, S: Stop, T: Terminal, W: Watch>(
             }
             Flow::Over => return Exit::Over,
             Flow::Fail(code) => {
-                watch.stood(steps.done - 1, at, &cursor);
+                running.watch.stood(running.steps.done - 1, at, &cursor);
                 return Exit::Fail(code);
             }
             Flow::Stop(code) => {
-                watch.stood(steps.done, at, &cursor);
+                running.watch.stood(running.steps.done, at, &cursor);
                 return Exit::Stop(code);
             }
         }
     }
 }
 
-/// Does the step that calls the text of this register, at the cursor of a text at this depth of calls. Where the text returns, the
-/// cursor goes on.
+/// Does the step that calls the text of a register, at the cursor of the text that calls it. Where it returns, the cursor goes on.
 ///
-/// A copy of it is run. A short one lies in the frame of this call. A longer one lies in the room that is spare, or memory is found for
-/// it before the step counts.
+/// A copy of the text is run. A short one lies in the frame of this call. A longer one lies in the room that is spare, or memory is
+/// found for it before the step counts.
 #[cycle(run_text)]
 fn run_called<D: Desk, S: Stop, T: Terminal, W: Watch>(
     desk: &mut D,
-    q: Reg,
-    depth: usize,
+    site: CallSite,
     cursor: &mut Cursor,
-    at: usize,
     rooms: &mut [Room],
-    steps: &mut Steps,
-    spare: &mut Spare,
+    running: &mut Running<W>,
     stop: &mut S,
     term: &mut T,
-    watch: &mut W,
 ) -> Exit
-    requires deep { depth ≤ CALL_LIMIT }
-    requires token { IsReadAt cursor.old.text.now at (Some (call_token q))
+    requires deep { running.old.depth ≤ CALL_LIMIT }
+    requires token { IsReadAt cursor.old.text.now site.at (Some (call_token site.register))
         (cursor_of cursor.old).left }
-    requires within { at ≤ length cursor.old.text.now }
+    requires within { site.at ≤ length cursor.old.text.now }
     ensures text { cursor.new.text ≡ cursor.old.text }
     ensures left { (cursor_of cursor.new).left ≡ (cursor_of cursor.old).left }
+    ensures more { result ≡ exit.Return → running.old.steps.done < running.new.steps.done }
     ensures counts { CountsSteps (S.answered stop.old) (S.answered stop.new) (result ≡ exit.Stop Lim)
-        steps.old steps.new }
-    ensures more { result ≡ exit.Return → steps.old.done < steps.new.done }
-    ensures leads { RunLeadsAt D.Desk T.Terminal depth (desk.old, term.old, steps.old) (desk.new, term.new, steps.new)
-        (at_register_call cursor.old q) (λ callers. reached_after_call cursor.new callers result) }
-    ensures told { W.knows watch.old None → Tells (W.knows watch.new) result steps.new.done
-        (StandsFrom D.Desk T.Terminal depth (desk.old, term.old, steps.old) (at_register_call cursor.old q)) }
+        running.old.steps running.new.steps }
+    ensures depth { running.new.depth ≡ running.old.depth }
+    ensures leads { RunLeadsAt D.Desk T.Terminal running.old.depth (desk.old, term.old, running.old.steps)
+        (desk.new, term.new, running.new.steps) (at_register_call cursor.old site.register)
+        (λ callers. reached_after_call cursor.new callers result) }
+    ensures told { W.knows running.old.watch None → Tells (W.knows running.new.watch) result running.new.steps.done
+        (StandsFrom D.Desk T.Terminal running.old.depth (desk.old, term.old, running.old.steps)
+        (at_register_call cursor.old site.register)) }
 {
-    if steps.are_over(stop) {
-        steps.limit = steps.done;
-        watch.stood(steps.done, at, cursor);
+    if running.steps.are_over(stop) {
+        running.steps.limit = running.steps.done;
+        running.watch.stood(running.steps.done, site.at, cursor);
         return Exit::Stop(Code::Lim);
     }
-    let text = desk.registers().text(q);
+    if running.depth == CALL_LIMIT {
+        running.steps.count();
+        desk.step_done(running.steps.done);
+        running.watch.stood(running.steps.done - 1, site.at, cursor);
+        return Exit::Fail(Code::Pdo);
+    }
+    let text = desk.registers().text(site.register);
     let len = text.len();
     if len <= SHORT_LIMIT {
         let mut copy = [0; SHORT_LIMIT];
         copy_short(text, &mut copy);
-        return run_copy(
-            desk,
-            q,
-            &copy[..len],
-            depth,
-            cursor,
-            at,
-            rooms,
-            steps,
-            spare,
-            stop,
-            term,
-            watch,
-        );
+        let exit = run_copy(desk, &copy[..len], cursor, rooms, running, stop, term);
+        tell_call(exit, site, cursor, &mut running.watch);
+        return exit;
     }
-    let alloc = *desk.registers().value(q).text.allocator();
-    match spare.copy(alloc, text) {
+    let alloc = *desk.registers().value(site.register).text.allocator();
+    match running.spare.copy(alloc, text) {
         Ok(copy) => {
-            let exit = run_copy(
-                desk, q, &copy, depth, cursor, at, rooms, steps, spare, stop, term, watch,
-            );
-            spare.keep(copy);
+            let exit = run_copy(desk, &copy, cursor, rooms, running, stop, term);
+            running.spare.keep(copy);
+            tell_call(exit, site, cursor, &mut running.watch);
             exit
         }
         Err(_) => {
-            watch.stood(steps.done, at, cursor);
+            running.watch.stood(running.steps.done, site.at, cursor);
             Exit::Stop(Code::Mem)
         }
     }
 }
 
-/// Counts the step that calls a text of which this is a copy, and runs it.
+/// Tells the watch of a call, where the text that was called has ended the run by a code.
+#[inline(always)]
+fn tell_call<W: Watch>(exit: Exit, site: CallSite, cursor: &Cursor, watch: &mut W)
+    requires { site.at ≤ length cursor.now.text.now }
+    ensures none { code_left exit ≡ None → watch.new ≡ watch.old }
+    ensures some { is_some (code_left exit) ≡ true → (p : Told) → W.knows watch.old (Some p)
+        → (to : ℕ) × IsTokenPlace cursor.now.text.now site.at to
+        × W.knows watch.new (Some (with_call p site.register to (cursor_of cursor.now).blocks)) }
+{
+    if exit.code().is_some() {
+        watch.called(site.register, site.at, cursor);
+    }
+}
+
+/// Counts the step that calls a text, of which this is a copy, and runs it.
 #[cycle(run_text)]
 fn run_copy<D: Desk, S: Stop, T: Terminal, W: Watch>(
     desk: &mut D,
-    q: Reg,
     called: &[u8],
-    depth: usize,
     cursor: &mut Cursor,
-    at: usize,
     rooms: &mut [Room],
-    steps: &mut Steps,
-    spare: &mut Spare,
+    running: &mut Running<W>,
     stop: &mut S,
     term: &mut T,
-    watch: &mut W,
 ) -> Exit
-    requires deep { depth ≤ CALL_LIMIT }
-    requires token { IsReadAt cursor.old.text.now at (Some (call_token q))
-        (cursor_of cursor.old).left }
-    requires within { at ≤ length cursor.old.text.now }
-    requires copy { called.now ≡ (content (D.state desk.old).registers q).text }
-    requires fuel { steps.old.done < steps.old.limit }
-    requires lets { (S.answered stop.old).said steps.old.done false }
+    requires deep { running.old.depth < CALL_LIMIT }
+    requires fuel { running.old.steps.done < running.old.steps.limit }
+    requires lets { (S.answered stop.old).said running.old.steps.done false }
     ensures text { cursor.new.text ≡ cursor.old.text }
     ensures left { (cursor_of cursor.new).left ≡ (cursor_of cursor.old).left }
+    ensures blocks { (cursor_of cursor.new).blocks ≡ (cursor_of cursor.old).blocks }
+    ensures more { running.old.steps.done < running.new.steps.done }
     ensures counts { CountsSteps (S.answered stop.old) (S.answered stop.new) (result ≡ exit.Stop Lim)
-        steps.old steps.new }
-    ensures more { steps.old.done < steps.new.done }
-    ensures leads { RunLeadsAt D.Desk T.Terminal depth (desk.old, term.old, steps.old) (desk.new, term.new, steps.new)
-        (at_register_call cursor.old q) (λ callers. reached_after_call cursor.new callers result) }
-    ensures told { W.knows watch.old None → Tells (W.knows watch.new) result steps.new.done
-        (StandsFrom D.Desk T.Terminal depth (desk.old, term.old, steps.old) (at_register_call cursor.old q)) }
+        running.old.steps running.new.steps }
+    ensures depth { running.new.depth ≡ running.old.depth }
+    ensures leads { (q : ℕ) → called.now ≡ (content (D.state desk.old).registers q).text
+        → RunLeadsAt D.Desk T.Terminal running.old.depth (desk.old, term.old, running.old.steps)
+        (desk.new, term.new, running.new.steps) (at_register_call cursor.old q) (λ callers. reached_after_call cursor.new callers result) }
+    ensures told { (q : ℕ) → called.now ≡ (content (D.state desk.old).registers q).text
+        → W.knows running.old.watch None → Tells (W.knows running.new.watch) result running.new.steps.done
+        (StandsInside D.Desk T.Terminal running.old.depth (desk.old, term.old, running.old.steps) cursor.old q) }
 {
-    steps.count();
-    desk.step_done(steps.done);
-    if depth == CALL_LIMIT {
-        watch.stood(steps.done - 1, at, cursor);
-        return Exit::Fail(Code::Pdo);
-    }
-    let exit = run_text(
-        desk,
-        called,
-        depth + 1,
-        &mut cursor.args,
-        rooms,
-        steps,
-        spare,
-        stop,
-        term,
-        watch,
-    );
-    if exit.code().is_some() {
-        watch.called(q, at, cursor);
-    }
+    running.steps.count();
+    desk.step_done(running.steps.done);
+    running.depth += 1;
+    let exit = run_text(desk, called, &mut cursor.args, rooms, running, stop, term);
+    running.depth -= 1;
     exit
+}
+
+/// The memory that the texts of the registers are in.
+#[inline(always)]
+fn memory_of<D: Desk>(desk: &D) -> Option<Global> {
+    let register = Reg::of(b'A')?;
+    Some(*desk.registers().value(register).text.allocator())
 }

@@ -51,13 +51,9 @@ fn run_on<S: Stop>(
         (take term.new.count term.new.room.now) session.new }
     ensures place { IsWhere session.old text.now result.answer result.place }
 {
-    let mut watch = Watched::new(session.alloc());
-    let options = Options {
-        limit,
-        stop,
-        watch: &mut watch,
-    };
-    let answer = session.run_with(text, term, options);
+    let watch = Watched::new(session.alloc());
+    let options = Options { limit, stop };
+    let (answer, watch) = session.run_with(text, term, options, watch);
     Answered {
         answer,
         place: watch.into_place(),

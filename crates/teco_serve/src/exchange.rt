@@ -129,16 +129,9 @@ fn run_placed<S: Stop, T: Terminal>(
         (RunsIn T.Terminal (session.old, term.old) (session.new, term.new) text.now result.answer) }
     ensures still { StillSays (S.answered stop.old) (S.answered stop.new) }
 {
-    let mut watch = Watched::new(session.alloc());
-    let answer = session.run_with(
-        text,
-        term,
-        Options {
-            limit,
-            stop,
-            watch: &mut watch,
-        },
-    );
+    let watch = Watched::new(session.alloc());
+    let options = Options { limit, stop };
+    let (answer, watch) = session.run_with(text, term, options, watch);
     Answered {
         answer,
         place: watch.into_place(),

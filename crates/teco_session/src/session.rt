@@ -2,7 +2,7 @@
 ghost use Rattle.std.specs.Prelude.{◌≡◌, ℕ, List, [], ◌<◌, ◌≤◌, length, vec_len, None, Some, IfOk, OnErr, OnOk, IsOk, ◌↔◌, IfSome, Ok, true, false};
 ghost use Rattle.std.specs.Option.{ForSome};
 ghost use Rattle.teco_exec.specs.Runs.{RunsWithin, StillSays};
-ghost use Rattle.teco_exec.specs.Options.{stop_left, watch_left};
+ghost use Rattle.teco_exec.specs.Options.{stop_left};
 ghost use Rattle.teco_exec.specs.Telling.{KnowsLast};
 ghost use Rattle.teco_store.specs.State.{state_of};
 ghost use Rattle.teco_io.specs.Terminal.{Shows};
@@ -240,9 +240,10 @@ impl Session {
             Options {
                 limit,
                 stop: &mut Never,
-                watch: &mut Unwatched,
             },
+            Unwatched,
         )
+        .0
     }
 
     /// Runs a command string as [`Session::run`] does, by these options. Where it is asked to stop, it is noted as under a limit of the
@@ -252,41 +253,42 @@ impl Session {
         &mut self,
         text: &[u8],
         term: &mut T,
-        options: Options<'_, S, W>,
-    ) -> Answer
-        ensures run { RunsWithin (S.answered (stop_left options.exit)) options.entry.limit (string_outcome result)
-            (RunsIn T.Terminal (self.old, term.old) (self.new, term.new) text.now result) }
+        options: Options<'_, S>,
+        watch: W,
+    ) -> (Answer, W)
+        ensures run { RunsWithin (S.answered (stop_left options.exit)) options.entry.limit (string_outcome result.0)
+            (RunsIn T.Terminal (self.old, term.old) (self.new, term.new) text.now result.0) }
         ensures still { StillSays (S.answered options.entry.stop.now) (S.answered (stop_left options.exit)) }
-        ensures told { W.knows options.entry.watch.now None → IfSome (outcome_of result)
-            (KnowsLast (W.knows (watch_left options.exit)) (present (history_of self.old)) text.now) }
-        ensures unbegun { is_unbegun result ≡ true → watch_left options.exit ≡ options.entry.watch.now }
+        ensures told { W.knows watch None → IfSome (outcome_of result.0)
+            (KnowsLast (W.knows result.1) (present (history_of self.old)) text.now) }
+        ensures unbegun { is_unbegun result.0 ≡ true → result.1 ≡ watch }
     {
         if self.editor().done() {
-            return Answer::AfterExit;
+            return (Answer::AfterExit, watch);
         }
         if self.entries.keeps_none() {
             let editor = self.recorder.editor_mut();
-            let outcome = run_with(editor, text, term, options);
+            let ran = run_with(editor, text, term, options, watch);
             editor_laws(editor);
-            return Answer::Ended(outcome);
+            return (Answer::Ended(ran.outcome), ran.watch);
         }
         let alloc = self.entries.alloc();
         let Ok(kept) = Text::copied(alloc, text) else {
-            return Answer::NotBegun;
+            return (Answer::NotBegun, watch);
         };
         if self.entries.reserve().is_err() {
-            return Answer::NotBegun;
+            return (Answer::NotBegun, watch);
         }
         record_laws();
         self.entries.truncate(self.cursor);
-        let (changes, outcome) = record_run(&mut self.recorder, text, term, options);
+        let (changes, ran) = record_run(&mut self.recorder, text, term, options, watch);
         self.entries.note(Entry {
             text: kept,
-            steps: outcome.steps,
+            steps: ran.outcome.steps,
             changes: Changes::of(changes),
         });
         self.cursor = self.entries.len();
-        Answer::Ended(outcome)
+        (Answer::Ended(ran.outcome), ran.watch)
     }
 
     /// Where the session finds its memory.

@@ -2,14 +2,15 @@ use Rattle.std.proofs.Common.{◌≡◌, true, false, is_some, ◌<◌, ◌≤�
 use Rattle.std.proofs.lemmas.List.{length-drop}
 use Rattle.teco_core.specs.ArgumentsView.{arguments}
 use Rattle.teco_exec.specs.View.{cursor}
-use Rattle.teco_exec.specs.Running.{at_cursor, at_return, code_left, goes, host, over, reached_after_call, stops}
-use Rattle.teco_exec.proofs.Continuations.{begins, caller, comes_home, less_left, too_deep}
-use Rattle.teco_exec.proofs.Calls.{ends_around, enters_copy, tells_call, tells_nothing, tells_on}
+use Rattle.teco_scan.specs.Breaks.{IsTokenPlace}
+use Rattle.teco_exec.specs.Running.{StandsWhereTold, caller, at_cursor, at_return, code_left, goes, host, over, reached_after_call, stops}
+use Rattle.teco_exec.proofs.Continuations.{begins, comes_home, less_left, too_deep}
+use Rattle.teco_exec.proofs.Calls.{ends_around, enters_copy, tells_around, tells_on}
 use Rattle.teco_exec.proofs.Going.{since}
 use Rattle.teco_exec.proofs.NoMemory.{begins_quietly}
 use Rattle.teco_exec.specs.Places.{IsReadAt, call_token, told_here, with_call}
 use Rattle.teco_exec.proofs.Placings.{call_told_here, called_told, stood_told}
-use Rattle.teco_exec.proofs.Stepped.{call_fails, call_leads, call_unpaid, counts_none, counts_on, counts_one, counts_over, counts_so, says_on}
+use Rattle.teco_exec.proofs.Stepped.{call_fails, call_leads, call_unpaid, counts_none, counts_on, counts_one, counts_over, counts_so, says_on, text_in}
 use Rattle.teco_core.specs.declared.code.Code.TheVariants.{Pdo}
 use Rattle.teco_exec.proofs.texts.+run_text.Goals as goal
 
@@ -17,6 +18,7 @@ pub run_in-running-init : goal.run_in-running-init
 run_in-running-init g t c = record {
   text = c.begin-cursor.ensures.text;
   counts = counts_none says_on;
+  depth = refl;
   watch = λ knows. knows;
   quiet = begins_quietly (arguments c.args.args.now) c.args.text.now (cursor c.begin-cursor.result) c.begin-cursor.ensures.begins;
   going = λ o callers deep e. begins o _ (arguments c.args.args.now) c.args.text.now c.begin-cursor.result callers c.begin-cursor.ensures.text c.begin-cursor.ensures.begins e;
@@ -29,12 +31,13 @@ run_in-running-smaller-in-On g t c =
     let short : length (drop to.at to.text.now) ≤ length c.args.text.now =
     let same : length to.text.now ≡ length c.args.text.now = ap length (ap (λ x. x.now) c.in-On.ensures.text ∙ c.running.invariant.text) in
     omega (arith, same, length-drop to.at to.text.now) in
-    less_left steps.limit c.running.steps.limit c.running.steps.done steps.done (length c.args.text.now) (length (cursor c.running.cursor).left) (length (cursor to).left) c.in-On.ensures.counts.limit c.in-On.ensures.counts.more steps.within short (c.in-On.ensures.advances tt)
+    less_left steps.limit c.running.running.steps.limit c.running.running.steps.done steps.done (length c.args.text.now) (length (cursor c.running.cursor).left) (length (cursor to).left) c.in-On.ensures.counts.limit c.in-On.ensures.counts.more steps.within short (c.in-On.ensures.advances tt)
 
 pub run_in-running-preserved-in-On : goal.run_in-running-preserved-in-On
 run_in-running-preserved-in-On g t c = record {
   text = ap (λ x. x.now) c.in-On.ensures.text ∙ c.running.invariant.text;
   counts = counts_on c.running.invariant.counts (counts_so (λ e. absurd cc) c.in-On.ensures.counts);
+  depth = c.running.invariant.depth;
   watch = c.running.invariant.watch;
   quiet = λ h. c.in-On.ensures.quiet (c.running.invariant.quiet h);
   going = λ o callers deep e.
@@ -70,35 +73,36 @@ run_in-returns-in-Stop-clause-no_memory g t c h e = c.in-Stop.ensures.quiet (c.r
 
 pub run_in-running-smaller : goal.run_in-running-smaller
 run_in-running-smaller g t c =
-    let steps = c.run_called.new.steps in
+    let steps = c.run_called.new.running.steps in
     let to = c.step.new.cursor in
     let back = c.run_called.new.cursor in
     let left : length (cursor back).left ≡ length (cursor to).left = ap length c.in-Return-run_called.ensures.left in
     let short : length (cursor back).left ≤ length c.args.text.now =
     let same : length to.text.now ≡ length c.args.text.now = ap length (ap (λ x. x.now) c.in-Call.ensures.text ∙ c.running.invariant.text) in
     omega (arith, same, left, length-drop to.at to.text.now) in
-    less_left steps.limit c.running.steps.limit c.running.steps.done steps.done (length c.args.text.now) (length (cursor c.running.cursor).left) (length (cursor back).left) (omega (arith, c.in-Call.ensures.counts.limit, c.in-Return-run_called.ensures.counts.limit)) (omega (arith, c.in-Call.ensures.counts.more, c.in-Return-run_called.ensures.counts.more)) steps.within short (inl (omega (arith, c.in-Call.ensures.counts.more, c.in-Return-run_called.ensures.more refl)))
+    less_left steps.limit c.running.running.steps.limit c.running.running.steps.done steps.done (length c.args.text.now) (length (cursor c.running.cursor).left) (length (cursor back).left) (omega (arith, c.in-Call.ensures.counts.limit, c.in-Return-run_called.ensures.counts.limit)) (omega (arith, c.in-Call.ensures.counts.more, c.in-Return-run_called.ensures.counts.more)) steps.within short (inl (omega (arith, c.in-Call.ensures.counts.more, c.in-Return-run_called.ensures.more refl)))
 
 pub run_in-running-preserved : goal.run_in-running-preserved
 run_in-running-preserved g t c = record {
   text = ap (λ x. x.now) (c.in-Return-run_called.ensures.text ∙ c.in-Call.ensures.text) ∙ c.running.invariant.text;
   counts = counts_on c.running.invariant.counts (counts_on (counts_so (λ e. absurd cc) c.in-Call.ensures.counts) (counts_so (λ e. absurd cc) c.in-Return-run_called.ensures.counts));
+  depth = c.in-Return-run_called.ensures.depth ∙ c.running.invariant.depth;
   watch = λ knows. c.in-Return-run_called.ensures.told (c.running.invariant.watch knows);
   quiet = λ h. absurd (c.in-Call.ensures.quiet (c.running.invariant.quiet h));
   going = λ o callers deep e.
       let there = c.running.invariant.going o callers deep e in
       let here = c.in-Call.ensures.leads o callers there.going in
-      let back = c.in-Return-run_called.ensures.leads o callers deep here.going in
+      let back = c.in-Return-run_called.ensures.leads o callers (deep ∙ sym c.running.invariant.depth) here.going in
       record { going = back.going; follows = λ floor p. back.follows floor (here.follows floor (there.follows floor p)) };
 }
 
 pub run_called-returns-then-are_over-clause-leads : goal.run_called-returns-then-are_over-clause-leads
 run_called-returns-then-are_over-clause-leads g t c o callers deep e =
-    call_unpaid c.args.cursor.now c.args.q callers o _ e c.args.steps.now.done refl
+    call_unpaid c.args.cursor.now c.args.site.register callers o _ e c.args.running.now.steps.done refl
 
 pub run_called-returns-in-Err-clause-leads : goal.run_called-returns-in-Err-clause-leads
 run_called-returns-in-Err-clause-leads g t c o callers deep e =
-    call_fails c.args.cursor.now c.args.q callers o _ e c.args.steps.now.limit (c.are_over.ensures.left c.if-are_over.false)
+    call_fails c.args.cursor.now c.args.site.register callers o _ e c.args.running.now.steps.limit (c.are_over.ensures.left c.if-are_over.false)
 
 pub run_in-returns-in-Return-clause-told : goal.run_in-returns-in-Return-clause-told
 run_in-returns-in-Return-clause-told g t c knows = c.running.invariant.watch knows
@@ -134,51 +138,22 @@ run_in-returns-in-Stop-clause-told g t c knows =
 pub run_called-returns-then-are_over-clause-told : goal.run_called-returns-then-are_over-clause-told
 run_called-returns-then-are_over-clause-told g t c knows =
     let told = c.stood.ensures knows in (
-      told_here c.args.steps.now.done c.args.cursor.now.text.now told.0 (cursor c.args.cursor.now).blocks,
+      told_here c.args.running.now.steps.done c.args.cursor.now.text.now told.0 (cursor c.args.cursor.now).blocks,
       told.2,
       refl,
       λ o callers deep e.
-          call_told_here o _ c.args.cursor.now c.args.q c.args.at told.0 c.args.steps.now.done callers refl e c.requires.token told.1,
+          call_told_here o _ c.args.cursor.now c.args.site.register c.args.site.at told.0 c.args.running.now.steps.done callers refl e c.requires.token told.1,
     )
 
 pub run_called-returns-in-Err-clause-told : goal.run_called-returns-in-Err-clause-told
 run_called-returns-in-Err-clause-told g t c knows =
     let told = c.stood-in-Err.ensures knows in (
-      told_here c.args.steps.now.done c.args.cursor.now.text.now told.0 (cursor c.args.cursor.now).blocks,
+      told_here c.args.running.now.steps.done c.args.cursor.now.text.now told.0 (cursor c.args.cursor.now).blocks,
       told.2,
       refl,
       λ o callers deep e.
-          call_told_here o _ c.args.cursor.now c.args.q c.args.at told.0 c.args.steps.now.done callers refl e c.requires.token told.1,
+          call_told_here o _ c.args.cursor.now c.args.site.register c.args.site.at told.0 c.args.running.now.steps.done callers refl e c.requires.token told.1,
     )
-
-pub run_copy-returns-then-depth-eq-CALL_LIMIT-clause-leads : goal.run_copy-returns-then-depth-eq-CALL_LIMIT-clause-leads
-run_copy-returns-then-depth-eq-CALL_LIMIT-clause-leads g t c o callers deep e =
-    let h = host g.D.Desk g.T.Terminal (c.step_done.new.self, c.args.term.now, c.count.new.self) in
-    let from = c.args.cursor.now in
-    let there = call_leads from c.args.q callers o _ e c.count.new.self.done c.count.ensures.done (g.D.Desk.state c.step_done.new.self) c.step_done.ensures.state (g.D.Desk.follows c.step_done.new.self)
-    (g.met.D.Desk.eases c.args.desk.now) c.step_done.ensures.follows c.args.called.now c.requires.copy in
-    since c.count.new.self.limit o _ h _ (over (Some Pdo)) there.follows
-    (too_deep o h from c.args.called.now callers there.going c.count.new.self.limit (deep ∙ c.if-depth-eq-CALL_LIMIT.true) c.count.new.self.within)
-
-pub run_copy-returns-then-depth-eq-CALL_LIMIT-clause-told : goal.run_copy-returns-then-depth-eq-CALL_LIMIT-clause-told
-run_copy-returns-then-depth-eq-CALL_LIMIT-clause-told g t c knows =
-    let told = c.stood.ensures knows in
-    let before = c.count.new.self.done - 1 in
-    let same : before ≡ c.args.steps.now.done = omega (arith, c.count.ensures.done) in (
-      told_here before c.args.cursor.now.text.now told.0 (cursor c.args.cursor.now).blocks,
-      told.2,
-      omega (arith, c.count.ensures.done),
-      λ o callers deep e.
-          call_told_here o _ c.args.cursor.now c.args.q c.args.at told.0 before callers same e c.requires.token told.1,
-    )
-
-pub run_in-run_called-requires : goal.run_in-run_called-requires
-run_in-run_called-requires g t c =
-    let to = c.step.new.cursor in
-    let token : IsReadAt to.text.now c.running.cursor.at (Some (call_token c.in-Call.q)) (cursor to).left =
-    subst (λ x. IsReadAt x.now c.running.cursor.at (Some (call_token c.in-Call.q)) (cursor to).left) (sym c.in-Call.ensures.text) c.in-Call.ensures.calls in
-    let within : c.running.cursor.at ≤ length to.text.now = subst (λ x. c.running.cursor.at ≤ length x.now) (sym c.in-Call.ensures.text) c.running.cursor.within in
-    search rules
 
 pub run_in-stood-requires : goal.run_in-stood-requires
 run_in-stood-requires g t c = subst (λ x. c.running.cursor.at ≤ length x.now) (sym c.in-Fail.ensures.text) c.running.cursor.within
@@ -204,90 +179,72 @@ run_called-returns-then-are_over-clause-counts g t c = counts_over c.are_over.en
 pub run_called-returns-in-Err-clause-counts : goal.run_called-returns-in-Err-clause-counts
 run_called-returns-in-Err-clause-counts g t c = counts_none c.are_over.ensures.still
 
-pub run_copy-returns-then-depth-eq-CALL_LIMIT-clause-counts : goal.run_copy-returns-then-depth-eq-CALL_LIMIT-clause-counts
-run_copy-returns-then-depth-eq-CALL_LIMIT-clause-counts g t c = counts_one says_on c.requires.lets c.count.ensures.limit c.count.ensures.done
-
-pub run_in-returns-in_default-clause-leads : goal.run_in-returns-in_default-clause-leads
-run_in-returns-in_default-clause-leads g t c o callers deep e =
-    let there = c.running.invariant.going o callers deep e in
-    let here = c.in-Call.ensures.leads o callers there.going in
-    let h = host g.D.Desk g.T.Terminal (c.step.new.desk, c.step.new.term, c.step.new.steps) in
-    let k = host g.D.Desk g.T.Terminal (c.run_called.new.desk, c.run_called.new.term, c.run_called.new.steps) in
-    let limit = c.run_called.new.steps.limit in
-    let exit = c.run_called.result in
-    since limit o _ h k _ (λ floor p. here.follows floor (there.follows floor p))
-    (ends_around limit o h k _ c.run_called.new.cursor callers exit c.in_default.not-Return (c.run_called.ensures.leads o callers deep here.going))
-
-pub run_in-returns-in_default-clause-no_memory : goal.run_in-returns-in_default-clause-no_memory
-run_in-returns-in_default-clause-no_memory g t c h e = c.in-Call.ensures.quiet (c.running.invariant.quiet h)
-
-pub run_in-returns-in_default-clause-told : goal.run_in-returns-in_default-clause-told
-run_in-returns-in_default-clause-told g t c knows =
-    tells_on (g.W.Watch.knows c.run_called.new.watch) _ _ c.run_called.result c.run_called.new.steps.done (c.run_called.ensures.told (c.running.invariant.watch knows))
-    (λ p stands o callers deep e. stands o callers deep (c.in-Call.ensures.leads o callers (c.running.invariant.going o callers deep e).going).going)
-
-pub run_in-returns-in_default-clause-counts : goal.run_in-returns-in_default-clause-counts
-run_in-returns-in_default-clause-counts g t c =
-    counts_on c.running.invariant.counts (counts_on (counts_so (λ e. absurd cc) c.in-Call.ensures.counts) c.run_called.ensures.counts)
-
-pub run_copy-returns-then-is_some-clause-leads : goal.run_copy-returns-then-is_some-clause-leads
-run_copy-returns-then-is_some-clause-leads g t c o callers deep e =
-    let from = c.args.cursor.now in
-    let left = c.run_text-exit.new.args in
+pub run_called-returns-then-running-eq-CALL_LIMIT-clause-leads : goal.run_called-returns-then-running-eq-CALL_LIMIT-clause-leads
+run_called-returns-then-running-eq-CALL_LIMIT-clause-leads g t c o callers deep e =
     let h = host g.D.Desk g.T.Terminal (c.step_done.new.self, c.args.term.now, c.count.new.self) in
-    let k = host g.D.Desk g.T.Terminal (c.run_text-exit.new.desk, c.run_text-exit.new.term, c.run_text-exit.new.steps) in
-    let fewer : length callers < 32 = omega (arith, deep, c.requires.deep, c.if-depth-eq-CALL_LIMIT.false) in
-    let deeper : length (caller from ∷ callers) ≡ c.args.depth + 1 = omega (arith, deep) in
-    let limit = c.run_text-exit.new.steps.limit in
-    let exit = c.run_text-exit.result in
-    let into = enters_copy from c.args.q callers o _ e c.count.new.self.done c.count.ensures.done (g.D.Desk.state c.step_done.new.self) c.step_done.ensures.state (g.D.Desk.follows c.step_done.new.self)
-    (g.met.D.Desk.eases c.args.desk.now) c.step_done.ensures.follows c.args.called.now c.requires.copy fewer in
-    since limit o _ h k (reached_after_call (record from { args = left }) callers exit) into.follows
-    (comes_home limit o h k (arguments left) from (record from { args = left }) callers refl refl exit
-    (c.run_text-exit.ensures.leads o (caller from ∷ callers) deeper into.going))
-
-pub run_copy-returns-then-is_some-clause-counts : goal.run_copy-returns-then-is_some-clause-counts
-run_copy-returns-then-is_some-clause-counts g t c = counts_on (counts_one says_on c.requires.lets c.count.ensures.limit c.count.ensures.done) c.run_text-exit.ensures.counts
-
-pub run_copy-returns-else-is_some-clause-leads : goal.run_copy-returns-else-is_some-clause-leads
-run_copy-returns-else-is_some-clause-leads g t c o callers deep e =
     let from = c.args.cursor.now in
-    let left = c.run_text-exit.new.args in
-    let h = host g.D.Desk g.T.Terminal (c.step_done.new.self, c.args.term.now, c.count.new.self) in
-    let k = host g.D.Desk g.T.Terminal (c.run_text-exit.new.desk, c.run_text-exit.new.term, c.run_text-exit.new.steps) in
-    let fewer : length callers < 32 = omega (arith, deep, c.requires.deep, c.if-depth-eq-CALL_LIMIT.false) in
-    let deeper : length (caller from ∷ callers) ≡ c.args.depth + 1 = omega (arith, deep) in
-    let limit = c.run_text-exit.new.steps.limit in
-    let exit = c.run_text-exit.result in
-    let into = enters_copy from c.args.q callers o _ e c.count.new.self.done c.count.ensures.done (g.D.Desk.state c.step_done.new.self) c.step_done.ensures.state (g.D.Desk.follows c.step_done.new.self)
-    (g.met.D.Desk.eases c.args.desk.now) c.step_done.ensures.follows c.args.called.now c.requires.copy fewer in
-    since limit o _ h k (reached_after_call (record from { args = left }) callers exit) into.follows
-    (comes_home limit o h k (arguments left) from (record from { args = left }) callers refl refl exit
-    (c.run_text-exit.ensures.leads o (caller from ∷ callers) deeper into.going))
+    let called = text_in from c.args.site.register callers (g.D.Desk.state c.args.desk.now) in
+    let there = call_leads from c.args.site.register callers o _ e c.count.new.self.done c.count.ensures.done (g.D.Desk.state c.step_done.new.self) c.step_done.ensures.state (g.D.Desk.follows c.step_done.new.self)
+    (g.met.D.Desk.eases c.args.desk.now) c.step_done.ensures.follows called refl in
+    since c.count.new.self.limit o _ h _ (over (Some Pdo)) there.follows
+    (too_deep o h from called callers there.going c.count.new.self.limit (deep ∙ c.if-running-eq-CALL_LIMIT.true) c.count.new.self.within)
 
-pub run_copy-returns-else-is_some-clause-counts : goal.run_copy-returns-else-is_some-clause-counts
-run_copy-returns-else-is_some-clause-counts g t c = counts_on (counts_one says_on c.requires.lets c.count.ensures.limit c.count.ensures.done) c.run_text-exit.ensures.counts
-
-pub run_copy-returns-else-is_some-clause-told : goal.run_copy-returns-else-is_some-clause-told
-run_copy-returns-else-is_some-clause-told g t c knows =
-    let exit = c.run_text-exit.result in
-    let none : is_some (code_left exit) ≡ false = grind arith in
-    tells_nothing (g.W.Watch.knows c.run_text-exit.new.watch) _ _ exit c.run_text-exit.new.steps.done none (c.run_text-exit.ensures.told knows)
-
-pub run_copy-returns-then-is_some-clause-told : goal.run_copy-returns-then-is_some-clause-told
-run_copy-returns-then-is_some-clause-told g t c knows =
-    let from = c.args.cursor.now in
-    let exit = c.run_text-exit.result in
-    let some : is_some (code_left exit) ≡ true = grind arith in
-    tells_call (g.W.Watch.knows c.run_text-exit.new.watch) (g.W.Watch.knows c.called.new.self) _ _ exit c.run_text-exit.new.steps.done some (c.run_text-exit.ensures.told knows) (λ p known stands.
-    let more = c.called.ensures p known in (
-      with_call p c.args.q more.0 (cursor from).blocks,
-      more.2,
-      refl,
+pub run_called-returns-then-running-eq-CALL_LIMIT-clause-told : goal.run_called-returns-then-running-eq-CALL_LIMIT-clause-told
+run_called-returns-then-running-eq-CALL_LIMIT-clause-told g t c knows =
+    let told = c.stood-then-running-eq-CALL_LIMIT.ensures knows in
+    let before = c.count.new.self.done - 1 in
+    let same : before ≡ c.args.running.now.steps.done = omega (arith, c.count.ensures.done) in (
+      told_here before c.args.cursor.now.text.now told.0 (cursor c.args.cursor.now).blocks,
+      told.2,
+      omega (arith, c.count.ensures.done),
       λ o callers deep e.
-          let fewer : length callers < 32 = omega (arith, deep, c.requires.deep, c.if-depth-eq-CALL_LIMIT.false) in
-          let deeper : length (caller from ∷ callers) ≡ c.args.depth + 1 = omega (arith, deep) in
-          let into = enters_copy from c.args.q callers o _ e c.count.new.self.done c.count.ensures.done (g.D.Desk.state c.step_done.new.self) c.step_done.ensures.state (g.D.Desk.follows c.step_done.new.self)
-          (g.met.D.Desk.eases c.args.desk.now) c.step_done.ensures.follows c.args.called.now c.requires.copy fewer in
-          called_told o from c.args.q c.args.at more.0 callers p (stands o (caller from ∷ callers) deeper into.going) c.requires.token more.1,
-    ))
+          call_told_here o _ c.args.cursor.now c.args.site.register c.args.site.at told.0 before callers same e c.requires.token told.1,
+    )
+
+pub run_called-returns-then-len-le-SHORT_LIMIT-clause-told : goal.run_called-returns-then-len-le-SHORT_LIMIT-clause-told
+run_called-returns-then-len-le-SHORT_LIMIT-clause-told g t c knows =
+    let q = c.args.site.register in
+    let at = c.args.site.at in
+    let ran = c.run_copy-exit in
+    tells_around g.W.Watch.knows ran.new.running.watch c.tell_call.new.watch _ _ ran.result ran.new.running.steps.done ran.new.cursor.text.now at q (cursor ran.new.cursor).blocks
+    c.tell_call.ensures.none c.tell_call.ensures.some (ran.ensures.told q (search rules) knows)
+    (λ p to inside place o callers deep e.
+    subst (λ bs. StandsWhereTold o callers (with_call p q to bs)) (sym ran.ensures.blocks)
+    (called_told o c.args.cursor.now q at to callers p (inside o callers deep e) c.requires.token (subst (λ x. IsTokenPlace x.now at to) ran.ensures.text place)))
+
+pub run_called-returns-in-Ok-clause-told : goal.run_called-returns-in-Ok-clause-told
+run_called-returns-in-Ok-clause-told g t c knows =
+    let q = c.args.site.register in
+    let at = c.args.site.at in
+    let ran = c.run_copy-exit-in-Ok in
+    tells_around g.W.Watch.knows ran.new.running.watch c.tell_call-in-Ok.new.watch _ _ ran.result ran.new.running.steps.done ran.new.cursor.text.now at q (cursor ran.new.cursor).blocks
+    c.tell_call-in-Ok.ensures.none c.tell_call-in-Ok.ensures.some (ran.ensures.told q (search rules) knows)
+    (λ p to inside place o callers deep e.
+    subst (λ bs. StandsWhereTold o callers (with_call p q to bs)) (sym ran.ensures.blocks)
+    (called_told o c.args.cursor.now q at to callers p (inside o callers deep e) c.requires.token (subst (λ x. IsTokenPlace x.now at to) ran.ensures.text place)))
+
+pub run_copy-returns-clause-leads : goal.run_copy-returns-clause-leads
+run_copy-returns-clause-leads g t c q copy o callers deep e =
+    let from = c.args.cursor.now in
+    let left = c.run_text-exit.new.args in
+    let h = host g.D.Desk g.T.Terminal (c.step_done.new.self, c.args.term.now, c.count.new.self) in
+    let k = host g.D.Desk g.T.Terminal (c.run_text-exit.new.desk, c.run_text-exit.new.term, c.run_text-exit.new.running.steps) in
+    let fewer : length callers < 32 = omega (arith, deep, c.requires.deep) in
+    let deeper : length (caller from ∷ callers) ≡ c.args.running.now.depth + 1 = omega (arith, deep) in
+    let limit = c.run_text-exit.new.running.steps.limit in
+    let exit = c.run_text-exit.result in
+    let into = enters_copy from q callers o _ e c.count.new.self.done c.count.ensures.done (g.D.Desk.state c.step_done.new.self) c.step_done.ensures.state (g.D.Desk.follows c.step_done.new.self)
+    (g.met.D.Desk.eases c.args.desk.now) c.step_done.ensures.follows c.args.called.now copy fewer in
+    since limit o _ h k (reached_after_call (record from { args = left }) callers exit) into.follows
+    (comes_home limit o h k (arguments left) from (record from { args = left }) callers refl refl exit
+    (c.run_text-exit.ensures.leads o (caller from ∷ callers) deeper into.going))
+
+pub run_copy-returns-clause-told : goal.run_copy-returns-clause-told
+run_copy-returns-clause-told g t c q copy knows =
+    let from = c.args.cursor.now in
+    tells_on (g.W.Watch.knows c.run_text-exit.new.running.watch) _ _ c.run_text-exit.result c.run_text-exit.new.running.steps.done (c.run_text-exit.ensures.told knows) (λ p stands o callers deep e.
+    let fewer : length callers < 32 = omega (arith, deep, c.requires.deep) in
+    let deeper : length (caller from ∷ callers) ≡ c.args.running.now.depth + 1 = omega (arith, deep) in
+    let into = enters_copy from q callers o _ e c.count.new.self.done c.count.ensures.done (g.D.Desk.state c.step_done.new.self) c.step_done.ensures.state (g.D.Desk.follows c.step_done.new.self)
+    (g.met.D.Desk.eases c.args.desk.now) c.step_done.ensures.follows c.args.called.now copy fewer in
+    stands o (caller from ∷ callers) deeper into.going)

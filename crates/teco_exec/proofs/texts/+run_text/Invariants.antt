@@ -9,31 +9,32 @@ use Rattle.teco_exec.specs.Tokens.{CountsSteps}
 use Rattle.teco_exec.proofs.texts.+run_text.Given as goal
 
 abbrev pub decreases-run_text : goal.decreases-run_text
-decreases-run_text g l = 5 * (32 - l.depth) + 4
+decreases-run_text g l = 5 * (32 - l.running.now.depth) + 4
 
 abbrev pub decreases-run_apart : goal.decreases-run_apart
-decreases-run_apart g l = 5 * (32 - l.depth) + 3
+decreases-run_apart g l = 5 * (32 - l.running.now.depth) + 3
 
 abbrev pub decreases-run_in : goal.decreases-run_in
-decreases-run_in g l = 5 * (32 - l.depth) + 2
+decreases-run_in g l = 5 * (32 - l.running.now.depth) + 2
 
 abbrev pub decreases-run_called : goal.decreases-run_called
-decreases-run_called g l = 5 * (32 - l.depth) + 1
+decreases-run_called g l = 5 * (32 - l.running.now.depth) + 1
 
 abbrev pub decreases-run_copy : goal.decreases-run_copy
-decreases-run_copy g l = 5 * (32 - l.depth)
+decreases-run_copy g l = 5 * (32 - l.running.now.depth)
 
 abbrev pub invariant-run_in-running : goal.invariant-run_in-running
 invariant-run_in-running g l = record {
   text : l.cursor.text.now ≡ l.text;
-  counts : CountsSteps (g.S.Stop.answered l.fn.stop) (g.S.Stop.answered l.stop) ⊥ l.fn.steps l.steps;
-  watch : g.W.Watch.knows l.fn.watch None → g.W.Watch.knows l.watch None;
+  counts : CountsSteps (g.S.Stop.answered l.fn.stop) (g.S.Stop.answered l.stop) ⊥ l.fn.running.steps l.running.steps;
+  watch : g.W.Watch.knows l.fn.running.watch None → g.W.Watch.knows l.running.watch None;
+  depth : l.running.depth ≡ l.fn.running.depth;
   quiet : takes_no_memory (nodes l.text) ≡ true → IsQuiet (cursor l.cursor);
-  going : (o : Origin) (callers : List Caller) → length callers ≡ l.depth
-      → RunGoesOn o (host g.D.Desk g.T.Terminal (l.fn.desk, l.fn.term, l.fn.steps)) (at_beginning (arguments l.fn.args) l.text callers)
-      → ReachesContinuation o (host g.D.Desk g.T.Terminal (l.fn.desk, l.fn.term, l.fn.steps))
-      (host g.D.Desk g.T.Terminal (l.desk, l.term, l.steps)) (at_cursor l.cursor callers);
+  going : (o : Origin) (callers : List Caller) → length callers ≡ l.fn.running.depth
+      → RunGoesOn o (host g.D.Desk g.T.Terminal (l.fn.desk, l.fn.term, l.fn.running.steps)) (at_beginning (arguments l.fn.args) l.text callers)
+      → ReachesContinuation o (host g.D.Desk g.T.Terminal (l.fn.desk, l.fn.term, l.fn.running.steps))
+      (host g.D.Desk g.T.Terminal (l.desk, l.term, l.running.steps)) (at_cursor l.cursor callers);
 }
 
 abbrev pub decreases-run_in-running : goal.decreases-run_in-running
-decreases-run_in-running g l = (l.steps.limit - l.steps.done) * (length l.text + 1) + length (cursor l.cursor).left
+decreases-run_in-running g l = (l.running.steps.limit - l.running.steps.done) * (length l.text + 1) + length (cursor l.cursor).left

@@ -16,6 +16,6 @@ returns-clause-run g c =
 
 pub returns-clause-place : goal.returns-clause-place
 returns-clause-place g c = (
-  each_some _ _ (c.into_place.ensures.told (present (history_of c.args.session.now)) c.args.text.now) (outcome_of c.run_with-answer.result) (c.run_with-answer.ensures.told c.new-watch.ensures),
+  each_some _ _ (c.into_place.ensures.told (present (history_of c.args.session.now)) c.args.text.now) (outcome_of c.run_with-answer.result.0) (c.run_with-answer.ensures.told c.new-watch.ensures),
   λ unbegun. c.into_place.ensures.none (subst (λ w. Knows w None) (sym (c.run_with-answer.ensures.unbegun unbegun)) c.new-watch.ensures),
 )

@@ -18,7 +18,7 @@ meant_between from old to new text steps e f meant = ap state_of f ∙ meant ∙
 
 pub returns-clause-run : goal.returns-clause-run
 returns-clause-run g c =
-    let under = c.run_with-outcome.ensures.run in
+    let under = c.run_with-ran.ensures.run in
     let run = under.so.run in
     record {
       under = under.under;
@@ -27,7 +27,7 @@ returns-clause-run g c =
       heard = under.heard;
       so = (
         run.0,
-        runs_between c.begin.new.self.full c.args.recorder.now.full c.run_with-outcome.new.desk.full c.take-changes.new.self.full c.args.text.now under.under c.run_with-outcome.result run.0
+        runs_between c.begin.new.self.full c.args.recorder.now.full c.run_with-ran.new.desk.full c.take-changes.new.self.full c.args.text.now under.under c.run_with-ran.result.outcome run.0
             c.begin.ensures.state c.take-changes.ensures.full run.1,
         run.2,
       );
@@ -35,26 +35,26 @@ returns-clause-run g c =
 
 pub returns-clause-again : goal.returns-clause-again
 returns-clause-again g c =
-    meant_between c.begin.new.self.full c.args.recorder.now.full c.run_with-outcome.new.desk.full c.take-changes.new.self.full c.args.text.now c.run_with-outcome.result.steps
-    c.begin.ensures.state c.take-changes.ensures.full c.run_with-outcome.ensures.run.so.again
+    meant_between c.begin.new.self.full c.args.recorder.now.full c.run_with-ran.new.desk.full c.take-changes.new.self.full c.args.text.now c.run_with-ran.result.outcome.steps
+    c.begin.ensures.state c.take-changes.ensures.full c.run_with-ran.ensures.run.so.again
 
 pub returns-clause-exit : goal.returns-clause-exit
 returns-clause-exit g c = λ going over.
     let done = λ (s : State). s.is_done in
-    c.run_with-outcome.ensures.run.so.exit (ap done c.begin.ensures.state ∙ going)
+    c.run_with-ran.ensures.run.so.exit (ap done c.begin.ensures.state ∙ going)
     (sym (ap done (ap state_of c.take-changes.ensures.full)) ∙ over)
 
 pub returns-clause-leads : goal.returns-clause-leads
 returns-clause-leads g c =
-    (run_left c.record_laws.ensures.leads c.meaning_laws.ensures.limit_zero c.args.recorder.now.full c.args.recorder.now.full c.take-changes.new.self.full c.begin.new.self c.run_with-outcome.new.desk c.args.text.now
-    c.run_with-outcome.result.steps c.take-changes.result.items c.requires refl c.begin.ensures.state c.begin.ensures.follows c.run_with-outcome.ensures.run.so.follows
+    (run_left c.record_laws.ensures.leads c.meaning_laws.ensures.limit_zero c.args.recorder.now.full c.args.recorder.now.full c.take-changes.new.self.full c.begin.new.self c.run_with-ran.new.desk c.args.text.now
+    c.run_with-ran.result.outcome.steps c.take-changes.result.items c.requires refl c.begin.ensures.state c.begin.ensures.follows c.run_with-ran.ensures.run.so.follows
     c.take-changes.ensures.full c.take-changes.ensures.entry).leads
 
 pub returns-clause-ran : goal.returns-clause-ran
 returns-clause-ran g c =
-    (run_left c.record_laws.ensures.leads c.meaning_laws.ensures.limit_zero c.args.recorder.now.full c.args.recorder.now.full c.take-changes.new.self.full c.begin.new.self c.run_with-outcome.new.desk c.args.text.now
-    c.run_with-outcome.result.steps c.take-changes.result.items c.requires refl c.begin.ensures.state c.begin.ensures.follows c.run_with-outcome.ensures.run.so.follows
+    (run_left c.record_laws.ensures.leads c.meaning_laws.ensures.limit_zero c.args.recorder.now.full c.args.recorder.now.full c.take-changes.new.self.full c.begin.new.self c.run_with-ran.new.desk c.args.text.now
+    c.run_with-ran.result.outcome.steps c.take-changes.result.items c.requires refl c.begin.ensures.state c.begin.ensures.follows c.run_with-ran.ensures.run.so.follows
     c.take-changes.ensures.full c.take-changes.ensures.entry).run
 
 pub returns-clause-told : goal.returns-clause-told
-returns-clause-told g c knows = rw (sym c.begin.ensures.state) (c.run_with-outcome.ensures.told knows)
+returns-clause-told g c knows = rw (sym c.begin.ensures.state) (c.run_with-ran.ensures.told knows)

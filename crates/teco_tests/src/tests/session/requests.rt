@@ -60,10 +60,9 @@ pub(crate) fn broken_off(
     let options = Options {
         limit,
         stop: &mut asking,
-        watch: &mut Unwatched,
     };
     Answered {
-        answer: session.run_with(text, term, options),
+        answer: session.run_with(text, term, options, Unwatched).0,
         place: Ok(None),
     }
 }
@@ -76,13 +75,9 @@ pub(crate) fn placed<S: Stop>(
     stop: &mut S,
     term: &mut Screen,
 ) -> Answered {
-    let mut watch = Watched::new(session.alloc());
-    let options = Options {
-        limit,
-        stop,
-        watch: &mut watch,
-    };
-    let answer = session.run_with(text, term, options);
+    let watch = Watched::new(session.alloc());
+    let options = Options { limit, stop };
+    let (answer, watch) = session.run_with(text, term, options, watch);
     Answered {
         answer,
         place: watch.into_place(),

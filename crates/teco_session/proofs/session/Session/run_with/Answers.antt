@@ -104,18 +104,18 @@ returns-then-is_err-clause-run g c =
     })
 
 -- the entry that is added
-abbrev entry_now : (g : given.Over) (c : goal.After-self-2-1 g) → Entry
-entry_now g c = record { text = c.in-Ok.kept; steps = c.record_run-changes.result.1.steps; changes = c.of.result }
+abbrev entry_now : (g : given.Over) (c : goal.After-result-2-1 g) → Entry
+entry_now g c = record { text = c.in-Ok.kept; steps = c.record_run-changes.result.1.outcome.steps; changes = c.of.result }
 
 -- the session with it
-abbrev session_now : (g : given.Over) (c : goal.After-self-2-1 g) → KeptSession
+abbrev session_now : (g : given.Over) (c : goal.After-result-2-1 g) → KeptSession
 session_now g c = session_with c.record_run-changes.new.recorder.full (strings_of c.note.new.self) c.len-self-inside.result (depth_of c.note.new.self)
 
-ran_now : (g : given.Over) (c : goal.After-self-2-1 g) → Ran (kept_session c.self.inside) (session_now g c) (kept_string (entry_now g c))
+ran_now : (g : given.Over) (c : goal.After-result-2-1 g) → Ran (kept_session c.self.inside) (session_now g c) (kept_string (entry_now g c))
 ran_now g c =
     let r = c.record_run-changes.ensures in
     let new = c.record_run-changes.new.recorder.full in
-    let k = c.record_run-changes.result.1.steps in
+    let k = c.record_run-changes.result.1.outcome.steps in
     let kept = sym c.in-Ok.ensures.value in
     let changes = sym c.of.ensures in
     let depth : depth_of c.truncate.new.self ≡ depth_of c.self.inside.entries = c.truncate.ensures.depth ∙ c.reserve.ensures.depth in
@@ -129,7 +129,7 @@ ran_now g c =
     c.len-self-inside.ensures.value (c.note.ensures.depth ∙ depth)
 
 -- the editor's state is the present one, before the string and after it
-state_now : (g : given.Over) (c : goal.After-self-2-1 g) → state_of c.self.inside.recorder.full ≡ present (history_of c.args.self.now)
+state_now : (g : given.Over) (c : goal.After-result-2-1 g) → state_of c.self.inside.recorder.full ≡ present (history_of c.args.self.now)
 state_now g c = sym (present_is (kept_session c.self.inside) c.self.invariant.within) ∙ ap (λ (s : KeptSession). present (history_of s)) c.self.view_is
 
 pub invariant_of-self-2 : goal.invariant_of-self-2
@@ -141,12 +141,12 @@ returns-clause-run g c =
     let ran = under.so in
     let old = history_of c.args.self.now in
     let new = state_of c.record_run-changes.new.recorder.full in
-    let k = c.record_run-changes.result.1.steps in
+    let k = c.record_run-changes.result.1.outcome.steps in
     let here = state_now g c in
     let done = λ (s : State). s.is_done in
     let last = present_is (session_now g c) (ran_now g c).holds.within in
     let going : (present old).is_done ≡ false = ap (λ (s : State). s.is_done) (sym c.editor.ensures.present) ∙ sym c.done.ensures ∙ c.if-done.false in
-    let run = subst (λ (s : State). Runs s c.args.text.now under.under c.record_run-changes.result.1 ran.0 new) here ran.1 in
+    let run = subst (λ (s : State). Runs s c.args.text.now under.under c.record_run-changes.result.1.outcome ran.0 new) here ran.1 in
     let text = ap (λ (t : List ℕ). noted old (record { text = t; steps = k; state = new })) c.in-Ok.ensures.value in
     record {
       under = under.under;
@@ -164,33 +164,33 @@ pub returns-clause-told : goal.returns-clause-told
 returns-clause-told g c knows = rw (sym (state_now g c)) (c.record_run-changes.ensures.told knows)
 
 -- With a depth of 0 nothing is noted.
-lent_now : (g : given.Over) (c : goal.After-self-1 g) → state_of c.editor_mut-editor.result.now ≡ present (history_of c.args.self.now)
+lent_now : (g : given.Over) (c : goal.After-result-1 g) → state_of c.editor_mut-editor.result.now ≡ present (history_of c.args.self.now)
 lent_now g c =
     ap state_of c.editor_mut-editor.ensures.value ∙ sym (present_is (kept_session c.self.inside) c.self.invariant.within) ∙ ap (λ (s : KeptSession). present (history_of s)) c.self.view_is
 
-went_now : (g : given.Over) (c : goal.After-self-1 g) → Went (kept_session c.self.inside) (session_with c.run_with-outcome.new.desk (strings_of c.self.inside.entries) c.self.inside.cursor (depth_of c.self.inside.entries))
-    (record { text = c.args.text.now; steps = c.run_with-outcome.result.steps; state = state_of c.run_with-outcome.new.desk })
+went_now : (g : given.Over) (c : goal.After-result-1 g) → Went (kept_session c.self.inside) (session_with c.run_with-ran.new.desk (strings_of c.self.inside.entries) c.self.inside.cursor (depth_of c.self.inside.entries))
+    (record { text = c.args.text.now; steps = c.run_with-ran.result.outcome.steps; state = state_of c.run_with-ran.new.desk })
 went_now g c =
     let kept = c.if-keeps_none.true in
-    session_went (kept_session c.self.inside) c.run_with-outcome.new.desk c.args.text.now c.run_with-outcome.result.steps (sym c.keeps_none.ensures.depth ∙ kept) (c.keeps_none.ensures.none kept)
+    session_went (kept_session c.self.inside) c.run_with-ran.new.desk c.args.text.now c.run_with-ran.result.outcome.steps (sym c.keeps_none.ensures.depth ∙ kept) (c.keeps_none.ensures.none kept)
     c.self.invariant c.editor_laws.ensures.sound
-    (c.run_with-outcome.ensures.run.so.again ∙ ap (λ (f : Full). (string_meaning (state_of f) c.args.text.now c.run_with-outcome.result.steps).state) c.editor_mut-editor.ensures.value)
+    (c.run_with-ran.ensures.run.so.again ∙ ap (λ (f : Full). (string_meaning (state_of f) c.args.text.now c.run_with-ran.result.outcome.steps).state) c.editor_mut-editor.ensures.value)
 
 pub invariant_of-self : goal.invariant_of-self
 invariant_of-self g c = (went_now g c).holds
 
 pub returns-then-keeps_none-clause-run : goal.returns-then-keeps_none-clause-run
 returns-then-keeps_none-clause-run g c =
-    let under = c.run_with-outcome.ensures.run in
+    let under = c.run_with-ran.ensures.run in
     let ran = under.so.run in
     let old = history_of c.args.self.now in
-    let new = state_of c.run_with-outcome.new.desk in
+    let new = state_of c.run_with-ran.new.desk in
     let here = lent_now g c in
     let done = λ (s : State). s.is_done in
-    let last = present_is (session_with c.run_with-outcome.new.desk (strings_of c.self.inside.entries) c.self.inside.cursor (depth_of c.self.inside.entries)) (went_now g c).holds.within in
+    let last = present_is (session_with c.run_with-ran.new.desk (strings_of c.self.inside.entries) c.self.inside.cursor (depth_of c.self.inside.entries)) (went_now g c).holds.within in
     let going : (present old).is_done ≡ false = ap (λ (s : State). s.is_done) (sym c.editor.ensures.present) ∙ sym c.done.ensures ∙ c.if-done.false in
-    let run = subst (λ (s : State). Runs s c.args.text.now under.under c.run_with-outcome.result ran.0 new) here ran.1 in
-    let note : NotedString = record { text = c.args.text.now; steps = c.run_with-outcome.result.steps; state = new } in
+    let run = subst (λ (s : State). Runs s c.args.text.now under.under c.run_with-ran.result.outcome ran.0 new) here ran.1 in
+    let note : NotedString = record { text = c.args.text.now; steps = c.run_with-ran.result.outcome.steps; state = new } in
     record {
       under = under.under;
       within = under.within;
@@ -204,4 +204,4 @@ returns-then-keeps_none-clause-run g c =
     }
 
 pub returns-then-keeps_none-clause-told : goal.returns-then-keeps_none-clause-told
-returns-then-keeps_none-clause-told g c knows = rw (sym (lent_now g c)) (c.run_with-outcome.ensures.told knows)
+returns-then-keeps_none-clause-told g c knows = rw (sym (lent_now g c)) (c.run_with-ran.ensures.told knows)
