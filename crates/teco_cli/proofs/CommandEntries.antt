@@ -1,16 +1,15 @@
 -- The entries of a parse.
-use Rattle.std.proofs.Common.{◌≡◌, ◌∙◌, ◌<◌, ◌≤◌, ℕ, Bool, true, false, zero, suc, refl, sym, ap, subst, arith, List, [], ◌∷◌, length, is_some, Option, Some, None, inl, inr}
-use Rattle.std.specs.Prelude.{find, option_map, slice_get}
+use Rattle.std.proofs.Common.{◌≡◌, ◌∙◌, ◌<◌, ℕ, Bool, true, false, refl, sym, ap, subst, arith, List, [], ◌∷◌, length, is_some, Option, Some, None, inl, inr}
+use Rattle.std.specs.Prelude.{option_map, slice_get}
 use Rattle.std.specs.List.{All, slice_index_or}
 use Rattle.std.specs.Str.{bytes_eq}
 use Rattle.std.specs.Borrow.{Bor}
 use Rattle.std.proofs.lemmas.List.Elements.{All-get_or}
 use Rattle.std.proofs.lemmas.Slice.Eq.{bytes_eq-Decides}
-use Rattle.clap.specs.Facts.{Entry, EntryPasses, HasIn, HasReading, IsParsed, PassesArg, args_of, groups_of, least_values, parser_of, parser_of_value}
+use Rattle.clap.specs.Facts.{Entry, EntryPasses, HasReading, PassesArg, args_of, groups_of, parser_of, parser_of_value}
 use Rattle.clap.specs.Built.{IsAuto, IsParsedFrom, IsPlain}
 use Rattle.clap.specs.Values.{Accepts, read_as, reading_of}
-use Rattle.clap.specs.Matches.{first_value, found_of, has_subcommand, matched_of, one_text}
-use Rattle.clap.specs.declared.builder.action.ArgAction.TheVariants.{Count, Set}
+use Rattle.clap.specs.Matches.{first_value, found_of, matched_of, one_text}
 use Rattle.clap.specs.declared.builder.arg.Arg.{Arg}
 use Rattle.clap.specs.declared.builder.command.Command.{Command}
 use Rattle.clap.specs.declared.builder.command.Command.TheViews.{out-Command}
@@ -22,23 +21,6 @@ use Rattle.clap.specs.declared.parser.matches.MatchedArg.{MatchedArg}
 use Rattle.clap.proofs.CallerLemmas.{entry_by_id, same_rules_by_id}
 
 -- ---- entries
-
-first_some : (xs : List (Bor (List ℕ))) → 0 < length xs → is_some (option_map (λ s. s.now) (slice_get xs 0)) ≡ true
-first_some [] lt = absurd (omega arith)
-first_some (x ∷ xs) lt = refl
-
--- an id that is had is found
-pub found_in : (xs : List Entry) (id : List ℕ) → HasIn xs id → is_some (option_map (λ e. e.1) (find (λ e. bytes_eq e.0.now id) xs)) ≡ true
-found_in [] id h = absurd (omega (arith, h.1))
-found_in (x ∷ xs) id h = go (bytes_eq x.0.now id) refl (found_in xs id) h
-  where
-    go : (t : Bool) → bytes_eq x.0.now id ≡ t → (HasIn xs id → is_some (option_map (λ e. e.1) (find (λ e. bytes_eq e.0.now id) xs)) ≡ true) → HasIn (x ∷ xs) id
-        → is_some (option_map (λ e. e.1) (find (λ e. bytes_eq e.0.now id) (x ∷ xs))) ≡ true
-    go true t rest h = rw t refl
-    go false t rest (zero, lt, at) =
-        let hit : bytes_eq x.0.now id ≡ true = at x in
-        cc
-    go false t rest (suc i, lt, at) = rw t (rest (i, omega arith, at))
 
 module _ (old : Command) (m : ArgMatches) (p : IsParsedFrom old m) (plain : IsPlain old) (globals : (out-Command old).has_globals ≡ false)
     (k : ℕ) (d : Arg) (lt : k < length (args_of old))
@@ -53,46 +35,6 @@ module _ (old : Command) (m : ArgMatches) (p : IsParsedFrom old m) (plain : IsPl
 
   abbrev found : Found
   found = found_of m
-
-  -- an argument that takes one value has a value where it has an entry
-  pub entry_has_value : arg.action ≡ Some Set → arg.val_delim ≡ None → 1 ≤ least_values arg → (id ≡ [] → ⊥) → is_some (matched_of found id) ≡ true → is_some (first_value found id) ≡ true
-  entry_has_value set delim least named some = go (matched_of found id) refl (p.parsed (p.from.globals ∙ globals))
-    where
-      go : (o : Option MatchedArg) → matched_of found id ≡ o → IsParsed p.built found (has_subcommand m) → is_some (first_value found id) ≡ true
-      go None e parsed =
-          let none : is_some (matched_of found id) ≡ false = rw e refl in
-          cc
-      go (Some x) e parsed =
-          let got = entry_by_id (EntryPasses p.built) found.entries.items id x parsed.values e in
-          let same_x : got.0.1 ≡ x = got.1 in
-          let key : bytes_eq got.0.0.now id ≡ true = got.2 in
-          let key_id : got.0.0.now ≡ id = (bytes_eq-Decides _ _).0 key in
-          let no_groups : groups_of p.built ≡ [] = (p.from.plain plain).1 in
-          elim got.3.1 [
-            | inl h ↦ elim h.1 [
-              | inl empty ↦ absurd (named (sym key_id ∙ empty))
-              | inr has ↦
-                  let bad : 0 < 0 = rw no_groups at has in
-                  absurd (omega arith)
-            ]
-            | inr (inl v) ↦ rw e (first_some x.vals.items (rw same_x at v))
-            | inr (inr (inl h)) ↦
-                let any = h.1 in
-                let s = same_rules_by_id old m p k d lt unique own any.0 any.1 any.2 any.3 (rw key_id at any.4.0) in
-                let is_set : any.1.action ≡ Some Set = s.action Set set in
-                let bad : Set ≡ Count = rw is_set at any.4.1 in
-                cc
-            | inr (inr (inr h)) ↦
-                let s = same_rules_by_id old m p k d lt unique own h.0 h.1 h.2 h.3 (rw key_id at h.4.0) in
-                elim h.4.1 [
-                  | inl none ↦
-                      let one = s.least set least in
-                      absurd (omega arith)
-                  | inr has ↦
-                      let bad : false ≡ true = rw (s.val_delim, delim) at has in
-                      cc
-                ]
-          ]
 
   -- an argument with its id is read as its parser says
   only_reading : (q : ValueParser) → arg.value_parser ≡ Some q → (r : Reading) → HasReading p.built id r → r ≡ reading_of q

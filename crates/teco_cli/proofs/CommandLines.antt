@@ -1,16 +1,14 @@
 -- What a parse by the program's command gives.
-use Rattle.std.proofs.Common.{◌≡◌, ◌∙◌, ◌≤◌, ℕ, true, false, refl, sym, ap, subst, arith, List, [], length, is_some, codes, Option, Some, None, Result, Ok, Err, inl, inr}
-use Rattle.std.specs.Prelude.{option_map, unwrap_or, IfOk, IfSome, IsSomeAnd}
-use Rattle.std.specs.List.{slice_index_or}
-use Rattle.std.proofs.lemmas.List.{length-map}
-use Rattle.clap.specs.Texts.{items_of}
+use Rattle.std.proofs.Common.{◌≡◌, ◌∙◌, ◌≤◌, ℕ, true, false, refl, sym, ap, subst, arith, List, is_some, codes, Option, Some, None, Result, Ok, Err, inl, inr, []}
+use Rattle.std.specs.Prelude.{IfOk, IfSome}
+use Rattle.std.specs.List.{Any, slice_index_or}
 use Rattle.clap.specs.Takes.{takes}
 use Rattle.clap.specs.Kinds.{HasKind}
-use Rattle.clap.specs.Facts.{WantsDefault, args_of, least_values, unwrap_or_range}
+use Rattle.clap.specs.Facts.{args_of, least_values, unwrap_or_range}
 use Rattle.clap.specs.Built.{IsParsedFrom}
 use Rattle.clap.specs.Values.{IsUnsignedIn, kind_of}
 use Rattle.clap.specs.Matches.{first_value, found_of, matched_of, one_text}
-use Rattle.clap.specs.Walk.{Row, Text, all_of, first_of, one_of, rows_of}
+use Rattle.clap.specs.Walk.{Row, Text, first_of, one_of, rows_of}
 use Rattle.clap.specs.declared.builder.action.ArgAction.TheVariants.{Set}
 use Rattle.clap.specs.Simple.{HasMatchesOf, app_of, is_simple, matches_of}
 use Rattle.clap.specs.Faults.{fault_of, is_simple_and_free}
@@ -22,13 +20,13 @@ use Rattle.clap.specs.declared.error.Error.{Error}
 use Rattle.clap.specs.declared.error.kind.ErrorKind.{ErrorKind}
 use Rattle.clap.specs.declared.error.kind.ErrorKind.TheVariants as kind
 use Rattle.clap.specs.declared.parser.matches.ArgMatches.{ArgMatches}
-use Rattle.clap.proofs.CallerLemmas.{default_present, required_has_value}
+use Rattle.clap.proofs.CallerLemmas.{required_has_value}
 use Rattle.clap.proofs.SimpleLemmas.{plain_fields}
 use Rattle.clap.proofs.WalkLemmas.{first_value-rows, one_text-rows}
 use Rattle.teco_core.specs.declared.limits.TheConstants.{DEPTH_LIMIT}
-use Rattle.teco_cli.specs.CommandLine.{IsCommandsFault, IsFaultSaid, IsTecoError, IsFaultOnceMade, IsLineBy, IsLineFault, IsMisfit, IsReadFault, IsRefusal, teco_app}
-use Rattle.teco_cli.specs.Options.{AreMany, HasLine, IsGiven}
-use Rattle.teco_cli.specs.Values.{IsNumber, number_of}
+use Rattle.teco_cli.specs.CommandLine.{IsCommandsFault, IsFaultSaid, IsTecoError, IsFaultOnceMade, IsLineBy, IsLineFault, IsMisfit, IsReadFault, IsRefusal, IsWordsFault, teco_app}
+use Rattle.teco_cli.specs.Assignments.{IsNoAssignment}
+use Rattle.teco_cli.specs.Options.{AreMany, HasLine, IsGiven, repeats_commands, option_texts}
 use Rattle.teco_cli.specs.Conflict.{has_conflict}
 use Rattle.teco_cli.specs.Joining.{joined}
 use Rattle.teco_cli.specs.Parsing.{IsErrorOf}
@@ -38,7 +36,7 @@ use Rattle.teco_cli.specs.declared.fault.LineFault.{LineFault}
 use Rattle.teco_cli.specs.declared.fault.LineFault.TheVariants.{NoMemory, Refused}
 use Rattle.teco_cli.specs.declared.refusal.Refusal.{Refusal}
 use Rattle.teco_cli.proofs.Parses.{error_by, told_faulty, values_alike}
-use Rattle.teco_cli.proofs.CommandEntries.{found_in, entry_has_value, entry_read}
+use Rattle.teco_cli.proofs.CommandEntries.{entry_read}
 use Rattle.teco_cli.proofs.OptionRows.{IsAlone, alone_by, arg_within, is_row, is_table, place_of, plain_is, rule_at, simple_is, some_of}
 
 -- the command is one whose matches the parser's contract says, and no argument has a rule on another
@@ -97,24 +95,7 @@ module _ (c : Command) (is : app_of c ≡ teco_app) (m : ArgMatches) (p : IsPars
       (ap (λ r. r.parser) a.rule_is ∙ parsed) a.named value in
       (read.0, subst (λ t. one_text (found_of m) t ≡ Some read.0) a.id_is read.1, read.2)
 
-  -- an option that takes one value and has a default has a value
-  default_given : (id : Text) (row : is_row teco_app.top.rules id ≡ true) → (rule_at teco_app.top.rules id).action ≡ Some Set
-      → (unwrap_or_range (rule_at teco_app.top.rules id).range).start_inclusive ≡ 1 → length (rule_at teco_app.top.rules id).defaults ≡ 1
-      → is_some (first_value (found_of m) id) ≡ true
-  default_given id row set start lots =
-      let a = alone id row in
-      let arg = slice_index_or (args_of c) (place id) (some id row) in
-      let one : least_values arg ≡ 1 = ap (λ r. (unwrap_or_range r.range).start_inclusive) a.rule_is ∙ start in
-      let least : 1 ≤ least_values arg = rw one (omega arith) in
-      let many : length (items_of arg.default_vals) ≡ 1 = sym (length-map (items_of arg.default_vals) (λ s. s.now)) ∙ (ap (λ r. length r.defaults) a.rule_is ∙ lots) in
-      let simple = (simple_is teco_app teco_is_table c is).args (place id) (some id row) a.within in
-      let wants : WantsDefault arg = (simple.default_ifs, omega (arith, many)) in
-      let entry = default_present c m p globals_is (place id) (some id row) a.within wants in
-      let value = entry_has_value c m p (plain_is teco_app teco_is_table c is) globals_is (place id) (some id row) a.within a.unique a.own
-      (ap (λ r. r.action) a.rule_is ∙ set) simple.delimiter least a.named (found_in _ _ entry) in
-      subst (λ t. is_some (first_value (found_of m) t) ≡ true) a.id_is value
-
-  -- and so has one that is required
+  -- an option or operand that is required has a value
   required_given : (id : Text) (row : is_row teco_app.top.rules id ≡ true) → (rule_at teco_app.top.rules id).action ≡ Some Set
       → (unwrap_or_range (rule_at teco_app.top.rules id).range).start_inclusive ≡ 1 → (rule_at teco_app.top.rules id).required ≡ true
       → is_some (first_of id rows) ≡ true
@@ -138,40 +119,15 @@ module _ (c : Command) (is : app_of c ≡ teco_app) (m : ArgMatches) (p : IsPars
           let text = number_text id row least most parsed (sym (values_alike (matched_of (found_of m) id)) ∙ ap is_some e) in
           rw (← one_text-rows (found_of m) id, text.1) text.2
 
-  -- and one with a default is given
-  number_given : (id : Text) (row : is_row teco_app.top.rules id ≡ true) (least most : ℕ) → (rule_at teco_app.top.rules id).parser ≡ Some (parser.Unsigned least most)
-      → (rule_at teco_app.top.rules id).action ≡ Some Set → (unwrap_or_range (rule_at teco_app.top.rules id).range).start_inclusive ≡ 1
-      → length (rule_at teco_app.top.rules id).defaults ≡ 1 → IsSomeAnd (one_of id rows) (IsUnsignedIn least most)
-  number_given id row least most parsed set start lots =
-      let text = number_text id row least most parsed (default_given id row set start lots) in
-      rw (← one_text-rows (found_of m) id, text.1) text.2
-
   -- what every parse gives
   pub given_is : IsGiven rows
   given_is = record {
     input = required_given (codes "input") refl refl refl refl;
-    limit = number_given (codes "limit") refl 0 1000000000000 refl refl refl refl;
+    limit = number_fits (codes "limit") refl 0 1000000000000 refl;
     seconds = number_fits (codes "seconds") refl 1 1000000000000 refl;
     undo = number_fits (codes "undo") refl 1 DEPTH_LIMIT refl;
     page_lines = number_fits (codes "page-lines") refl 1 1000000000 refl;
   }
-
--- a number that is read of a text in a range is in the range
-pub read_within : (least most : ℕ) (o : Option Text) (r : Option ℕ) → option_map number_of o ≡ r → IfSome o (IsUnsignedIn least most) → IfSome r (λ n. (least ≤ n) × (n ≤ most))
-read_within least most None r e fits = rw (← e) tt
-read_within least most (Some t) r e fits = rw (← e) (fits.2, fits.3)
-
-pub is_there : {X Y : Type 0} (f : X → Y) (o : Option X) (r : Option Y) (P : X → Type 0) → option_map f o ≡ r → IsSomeAnd o P → is_some r ≡ true
-is_there f None r P e h = elim h [ ]
-is_there f (Some x) r P e h = rw (← e) refl
-
-pub may_be : {X : Type 0} (o : Option X) (P : X → Type 0) → IsSomeAnd o P → IfSome o P
-may_be None P h = tt
-may_be (Some x) P h = h
-
-pub as_number : (least most : ℕ) (o : Option Text) → IfSome o (IsUnsignedIn least most) → IfSome o IsNumber
-as_number least most None h = tt
-as_number least most (Some t) h = (h.0, h.1)
 
 -- ---- the line
 
@@ -200,11 +156,21 @@ module _ (c : Command) (m : ArgMatches) (words : List Text) (is : app_of c ≡ t
 -- a line with a conflict is what a parse says
 pub misfit_is : (parse : List Row) (line : Line) → HasLine parse line → (fault : LineFault) → IsMisfit line fault → IsReadFault parse fault
 misfit_is parse line has NoMemory h = tt
-misfit_is parse line has (Refused refusal) h = (inr (line, has, h.0), h.1)
+misfit_is parse line has (Refused refusal) h = (inr (inr (inr (line, has, h.0))), h.1)
+
+-- commands that are given again
+pub repeated_is : (parse : List Row) (why : Text) (fault : LineFault) → repeats_commands parse ≡ true → IsFaultSaid why fault → IsReadFault parse fault
+repeated_is parse why NoMemory again said = tt
+repeated_is parse why (Refused refusal) again said = (inr (inl again), said.refused_as)
+
+-- words of --assign that are no assignments
+pub words_fault_is : (parse : List Row) (words : List Text) (fault : LineFault) → option_texts (codes "assign") parse ≡ words → IsWordsFault words fault → IsReadFault parse fault
+words_fault_is parse words NoMemory is h = tt
+words_fault_is parse words (Refused refusal) is h = (inr (inr (inl (subst (Any IsNoAssignment) (sym is) h.0))), h.1)
 
 -- commands that are given more than once
 pub commands_fault_is : (parse : List Row) (fault : LineFault)
-    → IsCommandsFault (first_of (codes "execute") parse) (unwrap_or (all_of (codes "file") parse) []) (first_of (codes "pages") parse) (first_of (codes "bytes") parse) fault
+    → IsCommandsFault (first_of (codes "execute") parse) (option_texts (codes "file") parse) (first_of (codes "pages") parse) (first_of (codes "bytes") parse) fault
     → IsReadFault parse fault
 commands_fault_is parse NoMemory h = tt
 commands_fault_is parse (Refused refusal) h = (inl h.0, h.1)

@@ -1,10 +1,11 @@
 -- Command lines that are written out, and what the parse gives for each.
 use Rattle.std.proofs.Common.{◌≡◌, ◌++◌, refl, true, false, codes, map, List, [], ◌∷◌, Option, Some, None}
 use Rattle.clap.specs.Words.{Text, all_of, fault_of, first_of, matches_of, one_of, takes}
-use Rattle.clap.specs.declared.error.kind.ErrorKind.TheVariants.{ArgumentConflict, DisplayHelp, InvalidValue, MissingRequiredArgument, TooManyValues, UnknownArgument, ValueValidation}
+use Rattle.clap.specs.declared.error.kind.ErrorKind.TheVariants.{DisplayHelp, InvalidValue, MissingRequiredArgument, TooManyValues, UnknownArgument, ValueValidation}
 use Rattle.clap.proofs.OnLiterals.{clap_on_literals}
 use Rattle.teco_cli.specs.CommandLine.{on_pages, teco_app}
 use Rattle.teco_cli.specs.Joining.{joined, joined_after}
+use Rattle.teco_cli.specs.Options.{repeats_commands, option_texts}
 use Rattle.teco_cli.specs.StreamNames.{is_standard_input, is_standard_output}
 
 -- what the words give for the inputs, the output, the flags and the numbers
@@ -16,6 +17,7 @@ pub record Row : Type 0 where
   pub prompt : Option Text
   pub check : Option Text
   pub explain : Option Text
+  pub quiet : Option Text
   pub limit : Option Text
   pub seconds : Option Text
   pub undo : Option Text
@@ -30,6 +32,7 @@ row_of words = record {
   prompt = one_of (codes "prompt") (matches_of teco_app words);
   check = one_of (codes "check") (matches_of teco_app words);
   explain = one_of (codes "explain") (matches_of teco_app words);
+  quiet = one_of (codes "quiet") (matches_of teco_app words);
   limit = one_of (codes "limit") (matches_of teco_app words);
   seconds = one_of (codes "seconds") (matches_of teco_app words);
   undo = one_of (codes "undo") (matches_of teco_app words);
@@ -46,7 +49,8 @@ plain input = record {
   prompt = Some (codes "false");
   check = Some (codes "false");
   explain = Some (codes "false");
-  limit = Some (codes "1000000");
+  quiet = Some (codes "false");
+  limit = None;
   seconds = None;
   undo = None;
   page_lines = None;
@@ -71,18 +75,31 @@ numbers : map row_of (
 unfolding clap_on_literals
 numbers = refl
 
--- teco a --prompt --check --explain -ob --limit=0 --undo=100000
-all_given : row_of (codes "teco" ∷ codes "a" ∷ codes "--prompt" ∷ codes "--check" ∷ codes "--explain" ∷ codes "-ob" ∷ codes "--limit=0" ∷ codes "--undo=100000" ∷ [])
+-- teco a --prompt --check --explain -q -ob --limit=0 --undo=100000
+all_given : row_of (codes "teco" ∷ codes "a" ∷ codes "--prompt" ∷ codes "--check" ∷ codes "--explain" ∷ codes "-q" ∷ codes "-ob" ∷ codes "--limit=0" ∷ codes "--undo=100000" ∷ [])
     ≡ record (plain (codes "a")) {
       output = Some (codes "b");
       prompt = Some (codes "true");
       check = Some (codes "true");
       explain = Some (codes "true");
+      quiet = Some (codes "true");
       limit = Some (codes "0");
       undo = Some (codes "100000");
     }
 unfolding clap_on_literals
 all_given = refl
+
+-- teco --limit 5 --limit=6 a; teco -o b -oc a; teco -i --in-place a: of what is given again the last one stands
+last_given : map row_of (
+    (codes "teco" ∷ codes "--limit" ∷ codes "5" ∷ codes "--limit=6" ∷ codes "a" ∷ [])
+    ∷ (codes "teco" ∷ codes "-o" ∷ codes "b" ∷ codes "-oc" ∷ codes "a" ∷ [])
+    ∷ (codes "teco" ∷ codes "-i" ∷ codes "--in-place" ∷ codes "a" ∷ [])
+    ∷ []) ≡ record (plain (codes "a")) { limit = Some (codes "6") }
+    ∷ record (plain (codes "a")) { output = Some (codes "c") }
+    ∷ record (plain (codes "a")) { in_place = Some (codes "true") }
+    ∷ []
+unfolding clap_on_literals
+last_given = refl
 
 -- teco -i a; teco a b c; teco a b -i c; teco a -- -i
 several : map row_of (
@@ -124,6 +141,21 @@ commands_given : map commands_of (
     ∷ (None, None, None, Some (codes "c")) ∷ (None, None, None, Some (codes "c")) ∷ []
 unfolding clap_on_literals
 commands_given = refl
+
+-- teco -v A=b -vC:=1 a: the words of --assign in their order
+assigned : option_texts (codes "assign") (matches_of teco_app (codes "teco" ∷ codes "-v" ∷ codes "A=b" ∷ codes "-vC:=1" ∷ codes "a" ∷ []))
+    ≡ codes "A=b" ∷ codes "C:=1" ∷ []
+unfolding clap_on_literals
+assigned = refl
+
+-- teco -e b -e c a; teco -bb --bytes=c a; teco -f b -f c a: the parser takes each, and the program not the first two
+repeated : map (λ words. repeats_commands (matches_of teco_app words)) (
+    (codes "teco" ∷ codes "-e" ∷ codes "b" ∷ codes "-e" ∷ codes "c" ∷ codes "a" ∷ [])
+    ∷ (codes "teco" ∷ codes "-bb" ∷ codes "--bytes=c" ∷ codes "a" ∷ [])
+    ∷ (codes "teco" ∷ codes "-f" ∷ codes "b" ∷ codes "-f" ∷ codes "c" ∷ codes "a" ∷ [])
+    ∷ []) ≡ true ∷ true ∷ false ∷ []
+unfolding clap_on_literals
+repeated = refl
 
 -- teco -f b -e c -f d a: the files in their order, and a word
 sources_given : map commands_of ((codes "teco" ∷ codes "-f" ∷ codes "b" ∷ codes "-e" ∷ codes "c" ∷ codes "-f" ∷ codes "d" ∷ codes "a" ∷ []) ∷ [])
@@ -179,16 +211,14 @@ faults : map (fault_of teco_app) (
     ∷ (codes "teco" ∷ codes "a" ∷ codes "--page-lines=0" ∷ [])
     ∷ (codes "teco" ∷ codes "a" ∷ codes "--page-lines=1000000001" ∷ [])
     ∷ (codes "teco" ∷ codes "a" ∷ codes "--prompt=true" ∷ [])
-    ∷ (codes "teco" ∷ codes "a" ∷ codes "--prompt" ∷ codes "--prompt" ∷ [])
     ∷ (codes "teco" ∷ codes "a" ∷ codes "--what" ∷ [])
     ∷ (codes "teco" ∷ codes "a" ∷ codes "-e" ∷ [])
     ∷ (codes "teco" ∷ codes "a" ∷ codes "-e" ∷ codes "-C" ∷ [])
-    ∷ (codes "teco" ∷ codes "a" ∷ codes "-bc" ∷ codes "--bytes=d" ∷ [])
     ∷ (codes "teco" ∷ codes "--help" ∷ [])
     ∷ []) ≡ (MissingRequiredArgument ∷ []) ∷ (InvalidValue ∷ []) ∷ (ValueValidation ∷ []) ∷ (ValueValidation ∷ [])
     ∷ (ValueValidation ∷ []) ∷ (ValueValidation ∷ [])
-    ∷ (ValueValidation ∷ []) ∷ (ValueValidation ∷ []) ∷ (ValueValidation ∷ []) ∷ (ValueValidation ∷ []) ∷ (ValueValidation ∷ []) ∷ (TooManyValues ∷ []) ∷ (ArgumentConflict ∷ []) ∷ (UnknownArgument ∷ [])
-    ∷ (InvalidValue ∷ []) ∷ (UnknownArgument ∷ []) ∷ (ArgumentConflict ∷ []) ∷ (DisplayHelp ∷ []) ∷ []
+    ∷ (ValueValidation ∷ []) ∷ (ValueValidation ∷ []) ∷ (ValueValidation ∷ []) ∷ (ValueValidation ∷ []) ∷ (ValueValidation ∷ []) ∷ (TooManyValues ∷ []) ∷ (UnknownArgument ∷ [])
+    ∷ (InvalidValue ∷ []) ∷ (UnknownArgument ∷ []) ∷ (DisplayHelp ∷ []) ∷ []
 unfolding clap_on_literals
 faults = refl
 

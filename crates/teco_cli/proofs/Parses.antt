@@ -9,7 +9,7 @@ use Rattle.clap.specs.Kinds.{HasKind, IsAmong}
 use Rattle.clap.specs.Values.{kind_of, read_as}
 use Rattle.clap.specs.Matches.{ReadsOne}
 use Rattle.clap.specs.Walk.{Rule, Text}
-use Rattle.clap.specs.Simple.{App, HasMatchesOf, app_of, new_app}
+use Rattle.clap.specs.Simple.{App, HasMatchesOf, app_of}
 use Rattle.clap.specs.Faults.{fault_of, is_simple_and_free}
 use Rattle.clap.specs.declared.builder.command.Command.{Command}
 use Rattle.clap.specs.declared.builder.value_parser.Reading.{Reading}
@@ -19,7 +19,7 @@ use Rattle.clap.specs.declared.error.kind.ErrorKind.TheVariants as kind
 use Rattle.clap.specs.declared.parser.matches.ArgMatches.{ArgMatches}
 use Rattle.clap.specs.declared.parser.matches.MatchedArg.{MatchedArg}
 use Rattle.teco_cli.specs.Values.{IsNumber, number_of}
-use Rattle.teco_cli.specs.Parsing.{with_version}
+use Rattle.teco_cli.specs.Parsing.{program_app}
 use Rattle.teco_cli.specs.OptionTable.{rule_by, with_rules}
 use Rattle.teco_cli.specs.Parsing.{IsErrorOf, IsUnparsed, app_by}
 use Rattle.teco_cli.specs.Refusals.{IsToldAs}
@@ -116,9 +116,9 @@ module _ (c : Command) (app : App) (is : app_of c ≡ app) (words : List Text) w
 
 -- the command of a program with this name and these rules
 pub app_is : (program : Program) (rows : List OptionRow) (name : Text) (rules : List Rule) → program.name.now ≡ name → map rule_by rows ≡ rules
-    → app_by program rows ≡ with_rules (with_version (new_app name)) rules
+    → app_by program rows ≡ with_rules (program_app name) rules
 app_is program rows name rules name_is rules_are =
-    ap (λ n. with_rules (with_version (new_app n)) (map rule_by rows)) name_is ∙ ap (with_rules (with_version (new_app name))) rules_are
+    ap (λ n. with_rules (program_app n) (map rule_by rows)) name_is ∙ ap (with_rules (program_app name)) rules_are
 
 -- a faulty line is told as an error for what doesn't go together
 pub told_faulty : (what : RefusedAs) → what ≡ Faulty → IsToldAs what kind.ArgumentConflict

@@ -1,19 +1,20 @@
 -- What the command line says: teco [OPTIONS] INPUT...
 use Rattle.std.specs.Prelude.{Bool, ◌-◌, length, take, ◌++◌, IfSome, ◌≡◌, ◌≤◌, ◌==◌, ℕ, List, [], ◌∷◌, Option, Some, codes, true}
 use Rattle.std.specs.Prelude.{false, ⊤, ◌⊎◌}
-use Rattle.std.specs.List.{suffix_len}
-use Rattle.clap.specs.Words.{App, IsAmong, Row, Rule, Text, fault_of, matches_of, new_app}
+use Rattle.std.specs.List.{Any, suffix_len}
+use Rattle.clap.specs.Words.{App, IsAmong, Row, Rule, Text, fault_of, matches_of}
 use Rattle.clap.specs.Words.{new_rule, takes}
 use Rattle.clap.specs.declared.builder.action.ArgAction.TheVariants.{Append, Set}
 use Rattle.clap.specs.declared.error.kind.ErrorKind.{ErrorKind}
 use Rattle.clap.specs.declared.error.kind.ErrorKind.TheVariants as kind
 use Rattle.teco_core.specs.declared.ascii.TheConstants.{ESC}
 use Rattle.teco_core.specs.declared.limits.TheConstants.{DEPTH_LIMIT}
+use Rattle.teco_cli.specs.Assignments.{IsNoAssignment}
 use Rattle.teco_cli.specs.Conflict.{has_conflict}
 use Rattle.teco_cli.specs.Joining.{joined}
-use Rattle.teco_cli.specs.Options.{AreMany, HasLine, SaysMany, option_rules}
+use Rattle.teco_cli.specs.Options.{AreMany, HasLine, SaysMany, SaysNoAssignment, option_rules, repeats_commands}
 use Rattle.teco_cli.specs.OptionTable.{with_rules}
-use Rattle.teco_cli.specs.Parsing.{with_version}
+use Rattle.teco_cli.specs.Parsing.{program_app}
 use Rattle.teco_cli.specs.Refusals.{IsFaulty, IsToldAs}
 use Rattle.teco_cli.specs.declared.line.Line.{Line}
 use Rattle.teco_cli.specs.declared.fault.LineFault.{LineFault}
@@ -21,6 +22,10 @@ use Rattle.teco_cli.specs.declared.fault.LineFault.TheVariants.{Refused, NoMemor
 use Rattle.teco_cli.specs.declared.refusal.Refusal.{Refusal}
 use Rattle.teco_cli.specs.declared.refusal.RefusedAs.TheVariants.{Faulty}
 use Prim.Native.Char.{code}
+
+-- the steps that a string can be given
+abbrev pub IsStepLimit : ℕ → Type 0
+IsStepLimit steps = steps ≤ 1000000000000
 
 -- a depth that a session can be asked for
 abbrev pub IsDepth : ℕ → Type 0
@@ -53,7 +58,7 @@ teco_rules = option_rules ++ input_rule ∷ more_rule ∷ []
 -- The command that the words are read by: the parser's rules for a command with these arguments and no others
 -- of its own.
 abbrev pub teco_app : App
-teco_app = with_rules (with_version (new_app (codes "teco"))) teco_rules
+teco_app = with_rules (program_app (codes "teco")) teco_rules
 
 abbrev pub is_escape : ℕ → Bool
 is_escape byte = byte == ESC
@@ -89,21 +94,30 @@ IsLine words = IsLineBy (joined words)
 
 -- What holds of each line that is taken: its numbers are in their ranges, and nothing in it conflicts.
 pub record IsFit (line : Line) : Type 0 where
-  pub limit : line.limit ≤ 1000000000000
+  pub limit : IfSome line.limit IsStepLimit
   pub depth : IfSome line.undo IsDepth
   pub seconds : IfSome line.seconds IsTime
   pub page_lines : IfSome line.page_lines IsPageLength
   pub fits : has_conflict line ≡ false
 
--- A parse says what doesn't go together: more than one place of the commands, or a line with a conflict.
+-- A parse says what no line says: commands more than once, a word of --assign that is no assignment, or a line with a conflict.
 abbrev pub SaysConflict : List Row → Type 0
-SaysConflict rows = SaysMany rows
-    ⊎ ((line : Line) × HasLine rows line × (has_conflict line ≡ true))
+SaysConflict rows = SaysMany rows ⊎ ((repeats_commands rows ≡ true) ⊎ (SaysNoAssignment rows
+    ⊎ ((line : Line) × HasLine rows line × (has_conflict line ≡ true))))
 
--- Why there is no line by a parse: memory was refused, or what it says doesn't go together.
+-- Why there is no line by a parse: memory was refused, or what it says is no line.
 abbrev pub IsReadFault : List Row → LineFault → Type 0
 IsReadFault rows NoMemory = ⊤
 IsReadFault rows (Refused refusal) = SaysConflict rows × (refusal.refused_as ≡ Faulty)
+
+-- Why a word of --assign, and why several of them, give no assignments: memory was refused, or one is none and the line is faulty.
+abbrev pub IsWordFault : Text → LineFault → Type 0
+IsWordFault word NoMemory = ⊤
+IsWordFault word (Refused refusal) = IsNoAssignment word × (refusal.refused_as ≡ Faulty)
+
+abbrev pub IsWordsFault : List Text → LineFault → Type 0
+IsWordsFault words NoMemory = ⊤
+IsWordsFault words (Refused refusal) = Any IsNoAssignment words × (refusal.refused_as ≡ Faulty)
 
 -- Why a line is given up once it is read: the same, of the line.
 abbrev pub IsMisfit : Line → LineFault → Type 0
@@ -111,7 +125,7 @@ IsMisfit line NoMemory = ⊤
 IsMisfit line (Refused refusal) = (has_conflict line ≡ true) × (refusal.refused_as ≡ Faulty)
 
 -- Why a line is refused, by the kind of an error of the parser: it wants memory; or these words have an error of that
--- kind, and it does not take them; or it takes them, but what they say doesn't go together.
+-- kind, and it does not take them; or it takes them, but what they say is no line.
 abbrev pub IsTecoError : List Text → ErrorKind → Type 0
 IsTecoError words error = (error ≡ kind.OutOfMemory)
     ⊎ (((takes teco_app words ≡ false) × IsAmong error (fault_of teco_app words))

@@ -6,7 +6,7 @@ use Rattle.clap.specs.declared.builder.action.ArgAction.TheVariants.{Append, Set
 use Rattle.clap.specs.declared.builder.value_parser.ValueParser.TheVariants as parser
 use Rattle.teco_cli.specs.declared.options.OptionRow.{OptionRow}
 use Rattle.teco_cli.specs.declared.options.Takes.{Takes}
-use Rattle.teco_cli.specs.declared.options.Takes.TheVariants.{Nothing, Text, Texts, Number, NumberOr, Operand, MaybeOperand, Operands}
+use Rattle.teco_cli.specs.declared.options.Takes.TheVariants.{Nothing, Text, Texts, Number, Operand, MaybeOperand, Operands}
 
 -- an option by its names: --name, and -x where it has a letter
 abbrev pub option : List ℕ → Option ℕ → Rule
@@ -24,12 +24,9 @@ with_text name short = record (option name short) { action = Some Set; value_nam
 abbrev pub with_texts : List ℕ → Option ℕ → Rule
 with_texts name short = record (option name short) { action = Some Append; value_names = 1 }
 
--- an option with a number in a range; where it isn't given, the default, if there is one
-abbrev pub with_number : List ℕ → Option ℕ → ℕ → ℕ → List (List ℕ) → Rule
-with_number name short least most defaults = record (with_text name short) {
-  parser = Some (parser.Unsigned least most);
-  defaults = defaults;
-}
+-- an option with a number in a range
+abbrev pub with_number : List ℕ → Option ℕ → ℕ → ℕ → Rule
+with_number name short least most = record (with_text name short) { parser = Some (parser.Unsigned least most) }
 
 -- what the parser does where an option is given that takes this: it sets a flag, keeps each text, or keeps the last one
 abbrev pub action_of : Takes → ArgAction
@@ -37,7 +34,6 @@ action_of Nothing = SetTrue
 action_of Text = Set
 action_of Texts = Append
 action_of (Number least most) = Set
-action_of (NumberOr least most default) = Set
 action_of Operand = Set
 action_of MaybeOperand = Set
 action_of Operands = Append
@@ -59,9 +55,7 @@ abbrev pub rule_taking : Takes → List ℕ → Option ℕ → Rule
 rule_taking Nothing name short = flag name short
 rule_taking Text name short = with_text name short
 rule_taking Texts name short = with_texts name short
-rule_taking (Number least most) name short = with_number name short least most []
-rule_taking (NumberOr least most default) name short =
-    with_number name short least most (default.now ∷ [])
+rule_taking (Number least most) name short = with_number name short least most
 rule_taking Operand name short = record (operand Operand name) { required = true }
 rule_taking MaybeOperand name short = operand MaybeOperand name
 rule_taking Operands name short = operand Operands name

@@ -11,14 +11,15 @@ use Rattle.teco_cli.specs.declared.fault.LineFault.TheVariants.{NoMemory, Refuse
 use Rattle.teco_cli.specs.declared.options.OptionRow.{OptionRow}
 use Rattle.teco_cli.specs.declared.parsing.Program.{Program}
 
--- the command tells its version, and so has the parser's argument --version
-abbrev pub with_version : App → App
-with_version app = on_top (λ shape. record shape { has_version = true }) app
+-- The command of a program without its arguments. It tells its version, and so has the parser's argument --version. Where an
+-- option that has one value or none is given again, the last one stands.
+abbrev pub program_app : Text → App
+program_app name = on_top (λ shape. record shape { has_version = true; args_override_self = true }) (new_app name)
 
 -- The command that the words of a program are read by: the parser's rules for a command with an argument for each row and no
 -- others of its own.
 abbrev pub app_by : Program → List OptionRow → App
-app_by program rows = with_rules (with_version (new_app program.name.now)) (map rule_by rows)
+app_by program rows = with_rules (program_app program.name.now) (map rule_by rows)
 
 -- The kind of an error of the parser: it wants memory; or these words have an error of that kind, and it does not take them.
 abbrev pub IsErrorOf : App → List Text → ErrorKind → Type 0

@@ -1,5 +1,6 @@
 -- The words that a program was called with, and what line they say.
-use Rattle.std.specs.Prelude.{◌≡◌, ⊤, ℕ, List, Result, Ok, Err, codes, map}
+use Rattle.std.specs.Prelude.{◌≡◌, ◌++◌, ⊤, ℕ, List, Option, Some, None, Result, Ok, Err, codes, map}
+use Rattle.std.specs.Fmt.{decimal}
 use Rattle.std.specs.String.{string_bytes}
 use Rattle.std.specs.declared.alloc.Global.{Global}
 use Rattle.std.specs.declared.string.String.{String}
@@ -23,7 +24,12 @@ abbrev pub IsFaultIn : (List Text → LineFault → Type 0) → Words → LineFa
 IsFaultIn lacks (Ok words) fault = lacks (map string_bytes words.items) fault
 IsFaultIn lacks (Err given) fault = fault ≡ given
 
+-- what is told of an argument that is not UTF-8, by its number if that was found
+abbrev pub why_not_text : Option ℕ → List ℕ
+why_not_text (Some number) = codes "argument " ++ decimal number ++ codes " is not UTF-8 text"
+why_not_text None = codes "an argument is not UTF-8 text"
+
 -- Why the words of a program with this usage were not given: memory was refused, or one of them is not UTF-8 and so the line is faulty.
 abbrev pub AreNotGiven : List ℕ → LineFault → Type 0
 AreNotGiven usage NoMemory = ⊤
-AreNotGiven usage (Refused refusal) = IsFaulty (codes "an argument is not UTF-8 text") usage refusal
+AreNotGiven usage (Refused refusal) = (number : Option ℕ) × IsFaulty (why_not_text number) usage refusal

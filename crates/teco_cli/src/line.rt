@@ -2,18 +2,20 @@
 ghost use Rattle.clap.specs.Words.{app_of, found_of, rows_of};
 ghost use Rattle.std.specs.Prelude.{◌≡◌, ◌≤◌, IfErr, IfOk, IfSome, codes, false, map};
 ghost use Rattle.std.specs.String.{string_bytes};
-ghost use Rattle.teco_cli.specs.CommandLine.{IsCommandsFault, IsDepth, IsFaultOnceMade, IsFaultSaid, IsLine, IsLineBy, IsLineFault, IsMisfit, IsPageLength, IsTime, IsReadFault, teco_app};
-ghost use Rattle.teco_cli.specs.Options.{HasLine, IsCommands, IsGiven, SaysCommands};
+ghost use Rattle.teco_cli.specs.CommandLine.{IsCommandsFault, IsDepth, IsFaultOnceMade, IsFaultSaid, IsStepLimit, IsLine, IsLineBy, IsLineFault, IsMisfit, IsPageLength, IsTime, IsReadFault, teco_app};
+ghost use Rattle.teco_cli.specs.Options.{HasLine, IsCommands, IsGiven, SaysCommands, repeats_commands};
 ghost use Rattle.teco_cli.specs.Values.{text_behind, texts_behind};
 ghost use Rattle.teco_cli.specs.Conflict.{has_conflict};
 
 use crate::{
-    CommandLine, LineFault, Program, are_given, command_of, faulty, flag_at, number_at, refusal_of,
-    text_at, text_given, texts_at, texts_given,
+    Assignment, CommandLine, LineFault, Program, are_given, command_of, faulty, flag_at, number_at,
+    refusal_of, text_at, text_given, texts_at, texts_given,
 };
+use assigning::assignments_in;
 use clap::{ArgMatches, Command};
 use conflict::conflict_in;
 use joining::joined;
+use repeating::repeated_in;
 use std::alloc::Global;
 use table::options;
 use teco_core::NoMemory;
@@ -62,8 +64,8 @@ pub struct Line {
     pub output: Option<String>,
     /// Where the commands come from.
     pub commands: Commands,
-    /// The most steps that each command string may take, at most [`crate::MOST_STEPS`].
-    pub limit: u64,
+    /// The most steps that each command string may take, at most [`crate::MOST_STEPS`]; without it the driver decides.
+    pub limit: Option<u64>,
     /// The most seconds that each command string may run, from 1 to [`MOST_SECONDS`]; without it none is broken off.
     pub seconds: Option<u64>,
     /// Whether the output is written over the input.
@@ -74,6 +76,10 @@ pub struct Line {
     pub prompt: bool,
     /// Whether each code that is shown is explained on standard error.
     pub explain: bool,
+    /// Whether nothing is told on standard error of how a run ends.
+    pub quiet: bool,
+    /// What is put into registers before the first command string, in this order.
+    pub values: Vec<Assignment>,
     /// The most command strings that are kept to be undone, from 1 to [`DEPTH_LIMIT`]; without it all are kept.
     pub undo: Option<u64>,
     /// The line ends after which a page ends, from 1 to [`MOST_PAGE_LINES`]; without it form feeds alone end pages.
@@ -134,8 +140,12 @@ fn commands_of(
 /// Where the commands come from, by a parse.
 fn commands_in<'a>(alloc: Global, matches: &ArgMatches<'a>) -> Result<Commands, LineFault>
     ensures commands { IfOk result (SaysCommands (rows_of (found_of matches.now))) }
+    ensures once { IfOk result (λ _. repeats_commands (rows_of (found_of matches.now)) ≡ false) }
     ensures fault { IfErr result (IsReadFault (rows_of (found_of matches.now))) }
 {
+    if let Some(why) = repeated_in(matches) {
+        return Err(faulty_line(alloc, why));
+    }
     let word = matches.get_str("execute");
     let files = matches.get_strs("file");
     let pages = matches.get_str("pages");
@@ -147,16 +157,17 @@ fn commands_in<'a>(alloc: Global, matches: &ArgMatches<'a>) -> Result<Commands, 
 fn line_in<'a>(alloc: Global, matches: &ArgMatches<'a>) -> Result<Line, LineFault>
     requires given { IsGiven (rows_of (found_of matches.now)) }
     ensures line { IfOk result (HasLine (rows_of (found_of matches.now))) }
-    ensures range { IfOk result (λ line. (line.limit ≤ 1000000000000) × IfSome line.undo IsDepth) }
+    ensures range { IfOk result (λ line. IfSome line.limit IsStepLimit × IfSome line.undo IsDepth) }
     ensures seconds { IfOk result (λ line. IfSome line.seconds IsTime) }
     ensures page_lines { IfOk result (λ line. IfSome line.page_lines IsPageLength) }
     ensures refused { IfErr result (IsReadFault (rows_of (found_of matches.now))) }
 {
     let commands = commands_in(alloc, matches)?;
+    let values = assignments_in(alloc, matches)?;
     let input = String::from_str(alloc, matches.get_str("input").unwrap())?;
     let more = texts_at(alloc, matches, "more")?;
     let output = text_at(alloc, matches, "output")?;
-    let limit = number_at(matches, "limit").unwrap();
+    let limit = number_at(matches, "limit");
     let seconds = number_at(matches, "seconds");
     let undo = number_at(matches, "undo");
     let page_lines = number_at(matches, "page-lines");
@@ -164,17 +175,20 @@ fn line_in<'a>(alloc: Global, matches: &ArgMatches<'a>) -> Result<Line, LineFaul
     let in_place = flag_at(matches, "in-place");
     let check = flag_at(matches, "check");
     let explain = flag_at(matches, "explain");
+    let quiet = flag_at(matches, "quiet");
     Ok(Line {
         input,
         more,
         output,
         commands,
+        values,
         limit,
         seconds,
         prompt,
         in_place,
         check,
         explain,
+        quiet,
         undo,
         page_lines,
     })
@@ -196,7 +210,7 @@ fn fitting(alloc: Global, line: Line) -> Result<Line, LineFault>
 fn fitting_line_in<'a>(alloc: Global, matches: &ArgMatches<'a>) -> Result<Line, LineFault>
     requires given { IsGiven (rows_of (found_of matches.now)) }
     ensures line { IfOk result (HasLine (rows_of (found_of matches.now))) }
-    ensures range { IfOk result (λ line. (line.limit ≤ 1000000000000) × IfSome line.undo IsDepth) }
+    ensures range { IfOk result (λ line. IfSome line.limit IsStepLimit × IfSome line.undo IsDepth) }
     ensures seconds { IfOk result (λ line. IfSome line.seconds IsTime) }
     ensures page_lines { IfOk result (λ line. IfSome line.page_lines IsPageLength) }
     ensures fits { IfOk result (λ line. has_conflict line ≡ false) }
@@ -210,7 +224,7 @@ fn fitting_line_in<'a>(alloc: Global, matches: &ArgMatches<'a>) -> Result<Line, 
 fn line_by<'a>(alloc: Global, command: Command<'a>, words: &'a [String]) -> Result<Line, LineFault>
     requires command { app_of command ≡ teco_app }
     ensures line { IfOk result (IsLineBy (map string_bytes words.now)) }
-    ensures range { IfOk result (λ line. (line.limit ≤ 1000000000000) × IfSome line.undo IsDepth) }
+    ensures range { IfOk result (λ line. IfSome line.limit IsStepLimit × IfSome line.undo IsDepth) }
     ensures seconds { IfOk result (λ line. IfSome line.seconds IsTime) }
     ensures page_lines { IfOk result (λ line. IfSome line.page_lines IsPageLength) }
     ensures refused { IfErr result (IsFaultOnceMade (map string_bytes words.now)) }
@@ -224,7 +238,7 @@ fn line_by<'a>(alloc: Global, command: Command<'a>, words: &'a [String]) -> Resu
 /// What the words say, the program's name first: `teco [OPTIONS] INPUT...`.
 pub fn line_of(alloc: Global, words: Vec<String>) -> Result<Line, LineFault>
     ensures line { IfOk result (IsLine (map string_bytes words.items)) }
-    ensures range { IfOk result (λ line. (line.limit ≤ 1000000000000) × IfSome line.undo IsDepth) }
+    ensures range { IfOk result (λ line. IfSome line.limit IsStepLimit × IfSome line.undo IsDepth) }
     ensures seconds { IfOk result (λ line. IfSome line.seconds IsTime) }
     ensures page_lines { IfOk result (λ line. IfSome line.page_lines IsPageLength) }
     ensures refused { IfErr result (IsLineFault (map string_bytes words.items)) }
@@ -254,9 +268,11 @@ impl CommandLine for Line {
     }
 }
 
+mod assigning;
 mod conflict;
 mod joining;
 mod pages;
+mod repeating;
 mod table;
 
 pub use pages::commands_on_pages;

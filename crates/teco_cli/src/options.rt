@@ -22,8 +22,6 @@ pub enum Takes {
     Texts,
     /// A number from the first to the second.
     Number(u64, u64),
-    /// The same; the option that is not given is the third, in digits.
-    NumberOr(u64, u64, &'static str),
     /// No option: it is a word by itself, which has to be there.
     Operand,
     /// The same, if it is there.
@@ -55,7 +53,7 @@ fn action_of(takes: Takes) -> ArgAction
         Takes::Nothing => ArgAction::SetTrue,
         Takes::Texts => ArgAction::Append,
         Takes::Operands => ArgAction::Append,
-        Takes::Text | Takes::Number(..) | Takes::NumberOr(..) => ArgAction::Set,
+        Takes::Text | Takes::Number(..) => ArgAction::Set,
         Takes::Operand | Takes::MaybeOperand => ArgAction::Set,
     }
 }
@@ -105,9 +103,6 @@ fn arg_by<'a>(alloc: Global, row: &OptionRow) -> Arg<'a>
         Takes::Nothing => named(alloc, row),
         Takes::Text | Takes::Texts => named(alloc, row).value_name(row.value),
         Takes::Number(least, most) => numbered(alloc, row, least, most),
-        Takes::NumberOr(least, most, default) => {
-            numbered(alloc, row, least, most).default_value(default)
-        }
         Takes::Operand => operand(alloc, row).required(true),
         Takes::MaybeOperand | Takes::Operands => operand(alloc, row),
     }

@@ -1,9 +1,8 @@
 //! The words of a program, read by the parser.
-ghost use Rattle.clap.specs.Words.{HasMatchesOf, app_of, fault_of, is_simple_and_free, new_app};
+ghost use Rattle.clap.specs.Words.{HasMatchesOf, app_of, fault_of, is_simple_and_free};
 ghost use Rattle.std.specs.Prelude.{[], ◌≡◌, IfErr, IfOk, map, true};
 ghost use Rattle.std.specs.String.{string_bytes};
-ghost use Rattle.teco_cli.specs.Parsing.{with_version};
-ghost use Rattle.teco_cli.specs.Parsing.{IsUnparsed, app_by};
+ghost use Rattle.teco_cli.specs.Parsing.{IsUnparsed, app_by, program_app};
 
 use crate::fault::LineFault;
 use crate::options::{OptionRow, with_table};
@@ -27,15 +26,16 @@ pub struct Program {
     pub usage: &'static str,
 }
 
-/// The command without its arguments: its name, and what its help and its version tell.
+/// The command without its arguments: its name, what its help and its version tell, and that of an option given again the last one stands.
 fn described<'a>(alloc: Global, program: &Program) -> Command<'a>
-    ensures { app_of result ≡ with_version (new_app program.now.name.now) }
+    ensures { app_of result ≡ program_app program.now.name.now }
 {
     Command::new(alloc, program.name)
         .about(program.about)
         .after_help(program.after_help)
         .override_usage(program.usage)
         .version(VERSION)
+        .args_override_self(true)
 }
 
 /// The command that the parser reads the words of a program by.

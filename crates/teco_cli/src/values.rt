@@ -56,6 +56,16 @@ pub fn are_given(texts: Option<&[&str]>) -> bool
     }
 }
 
+/// Whether there are several.
+pub fn are_many(texts: Option<&[&str]>) -> bool
+    ensures { result ≡ nat_lt 1 (length (texts_behind texts.entry)) }
+{
+    match texts {
+        Some(texts) => texts.len() > 1,
+        None => false,
+    }
+}
+
 /// The texts of an argument that may be given more than once.
 pub fn texts_at(alloc: Global, matches: &ArgMatches, id: &str) -> Result<Vec<String>, NoMemory>
     ensures { IfOk result (λ given. unwrap_or (all_of id.now (rows_of (found_of matches.now))) [] ≡ map string_bytes given.items) }

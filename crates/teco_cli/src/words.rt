@@ -3,12 +3,14 @@ ghost use Rattle.clap.specs.Words.{Text};
 ghost use Rattle.std.specs.Prelude.{◌≡◌, ℕ, List, IfErr, IfOk, codes, map};
 ghost use Rattle.std.specs.String.{string_bytes};
 ghost use Rattle.teco_cli.specs.Refusals.{IsFaulty};
-ghost use Rattle.teco_cli.specs.Words.{AreNotGiven, IsFaultIn, IsLineIn};
+ghost use Rattle.teco_cli.specs.Words.{AreNotGiven, IsFaultIn, IsLineIn, why_not_text};
 ghost use Rattle.teco_cli.specs.declared.fault.LineFault.{LineFault};
 
 use crate::fault::{LineFault, fault_of_words};
 use crate::refusal::{Refusal, faulty};
 use std::alloc::Global;
+use std::env::FillError;
+use std::io;
 use std::rt::Env;
 use teco_core::NoMemory;
 
@@ -37,11 +39,54 @@ pub trait CommandLine: Drop {
         ensures fault { IfErr result (lacks (map string_bytes words.items)) };
 }
 
-/// The refusal of a line with an argument that is not UTF-8.
-pub fn not_text<L: CommandLine>(alloc: Global) -> Result<Refusal, NoMemory>
-    ensures { IfOk result (IsFaulty (codes "an argument is not UTF-8 text") L.usage) }
+/// One argument of a program, alone.
+#[derive(Drop)]
+struct OneArgument<'a, R> {
+    rt: &'a R,
+    number: usize,
+}
+
+impl<'a, R: Env> Env for OneArgument<'a, R> {
+    fn arg(&self, i: usize, buf: &mut [u8]) -> Result<usize, FillError> {
+        match i {
+            0 => self.rt.arg(self.number, buf),
+            _ => Err(FillError::NotPresent),
+        }
+    }
+
+    fn var(&self, _name: &str, _buf: &mut [u8]) -> Result<usize, FillError> {
+        Err(FillError::NotPresent)
+    }
+
+    fn var_at(&self, _i: usize, _buf: &mut [u8]) -> Result<usize, FillError> {
+        Err(FillError::NotPresent)
+    }
+}
+
+/// The number of the first argument that is not UTF-8, 0 for the program's name. There is none if memory was refused to look.
+fn not_text_at<R: Env + AllocGlobal>(rt: &R) -> Option<usize> {
+    for number in 0..usize::MAX {
+        match std::env::args(&(OneArgument { rt, number }, rt.alloc())) {
+            Ok(words) if words.len() > 0 => {}
+            Ok(_) => return None,
+            Err(error) if error.kind() == io::ErrorKind::InvalidData => return Some(number),
+            Err(_) => return None,
+        }
+    }
+    None
+}
+
+/// The refusal of a line with an argument that is not UTF-8, which is the one of this number.
+pub fn not_text<L: CommandLine>(alloc: Global, number: Option<usize>) -> Result<Refusal, NoMemory>
+    ensures { IfOk result (IsFaulty (why_not_text number) L.usage) }
 {
-    faulty(alloc, "an argument is not UTF-8 text", L::usage())
+    match number {
+        Some(number) => {
+            let why = format!(in alloc; "argument {number} is not UTF-8 text")?;
+            faulty(alloc, why.as_str(), L::usage())
+        }
+        None => faulty(alloc, "an argument is not UTF-8 text", L::usage()),
+    }
 }
 
 /// The words that the program was called with.
@@ -50,7 +95,10 @@ pub fn words_given<L: CommandLine, R: Env + AllocGlobal>(rt: &R) -> Result<Vec<S
 {
     match std::env::args(rt) {
         Ok(words) => Ok(words.collect(rt.alloc())?),
-        Err(error) => Err(fault_of_words(error, not_text::<L>(rt.alloc()))),
+        Err(error) => {
+            let refusal = not_text::<L>(rt.alloc(), not_text_at(rt));
+            Err(fault_of_words(error, refusal))
+        }
     }
 }
 

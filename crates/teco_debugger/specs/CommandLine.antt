@@ -1,12 +1,12 @@
 -- What the command line says: teco-debug [OPTIONS] MACRO
 use Rattle.std.specs.Prelude.{◌≡◌, ◌↔◌, ◌⊎◌, ⊤, ℕ, List, [], ◌∷◌, codes, min, Option, Some, None, option_map, unwrap_or, true, false, IsTrue}
 use Rattle.std.specs.String.{string_bytes}
-use Rattle.clap.specs.Words.{App, IsAmong, Row, Rule, Text, fault_of, first_of, matches_of, new_app, new_rule, one_of, takes}
+use Rattle.clap.specs.Words.{App, IsAmong, Row, Rule, Text, fault_of, first_of, matches_of, new_rule, one_of, takes}
 use Rattle.clap.specs.declared.builder.action.ArgAction.TheVariants.{Set}
 use Rattle.clap.specs.declared.error.kind.ErrorKind.{ErrorKind}
 use Rattle.clap.specs.declared.error.kind.ErrorKind.TheVariants as kind
 use Rattle.teco_cli.specs.Values.{IsNumber, number_of}
-use Rattle.teco_cli.specs.Parsing.{with_version}
+use Rattle.teco_cli.specs.Parsing.{program_app}
 use Rattle.teco_cli.specs.OptionTable.{flag, with_number, with_rules, with_text}
 use Rattle.teco_cli.specs.Refusals.{IsToldAs}
 use Rattle.teco_cli.specs.declared.fault.LineFault.{LineFault}
@@ -19,7 +19,7 @@ macro_rule = record (new_rule (codes "macro")) { value_names = 1; required = tru
 
 -- the options, and the file of the command string
 abbrev pub debug_rules : List Rule
-debug_rules = with_number (codes "limit") None 0 1000000000000 []
+debug_rules = with_number (codes "limit") None 0 1000000000000
     ∷ with_text (codes "input") None
     ∷ flag (codes "dollar") None
     ∷ macro_rule
@@ -28,7 +28,7 @@ debug_rules = with_number (codes "limit") None 0 1000000000000 []
 -- The command that the words are read by: the parser's rules for a command with these arguments and no others of its
 -- own.
 abbrev pub debug_app : App
-debug_app = with_rules (with_version (new_app (codes "teco-debug"))) debug_rules
+debug_app = with_rules (program_app (codes "teco-debug")) debug_rules
 
 -- The most steps: what the text says, which the parser takes if it is a number up to a million million; a million
 -- without one.

@@ -170,7 +170,7 @@ fn settings_of(line: &Line) -> Settings
 {
     Settings {
         bounds: Bounds {
-            steps: line.limit,
+            steps: line.limit.unwrap_or(1_000_000),
             seconds: line.seconds,
         },
         prompt: line.prompt,

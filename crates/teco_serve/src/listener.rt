@@ -91,7 +91,7 @@ impl<'a, N: Terminal> Explainer<'a, N> {
         ensures same_reference { result.notes.ghost_name ≡ notes.entry.ghost_name }
     {
         let limits = Limits {
-            steps: line.limit,
+            steps: line.limit.unwrap_or(1_000_000),
             seconds: line.seconds,
             bytes: TEXT_LIMIT as u64,
         };

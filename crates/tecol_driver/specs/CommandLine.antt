@@ -1,11 +1,11 @@
 -- What the command line says: tecol [OPTIONS] [FILE]
 use Rattle.std.specs.Prelude.{◌≡◌, ◌↔◌, ◌⊎◌, ⊤, List, [], ◌∷◌, codes, map, Some, unwrap_or, Bool, true, false, ◌&&◌, IsTrue}
 use Rattle.std.specs.String.{string_bytes}
-use Rattle.clap.specs.Words.{App, IsAmong, Row, Rule, Text, fault_of, first_of, matches_of, new_app, new_rule, one_of, takes}
+use Rattle.clap.specs.Words.{App, IsAmong, Row, Rule, Text, fault_of, first_of, matches_of, new_rule, one_of, takes}
 use Rattle.clap.specs.declared.builder.action.ArgAction.TheVariants.{Set}
 use Rattle.clap.specs.declared.error.kind.ErrorKind.{ErrorKind}
 use Rattle.clap.specs.declared.error.kind.ErrorKind.TheVariants as kind
-use Rattle.teco_cli.specs.Parsing.{with_version}
+use Rattle.teco_cli.specs.Parsing.{program_app}
 use Rattle.teco_cli.specs.OptionTable.{flag, with_rules, with_text}
 use Rattle.teco_cli.specs.Refusals.{IsToldAs}
 use Rattle.teco_cli.specs.declared.fault.LineFault.{LineFault}
@@ -30,7 +30,7 @@ tecol_rules = flag (codes "reverse") (Some 114)
 
 -- The command that the words are read by: the parser's rules for a command with these arguments and no others of its own.
 abbrev pub tecol_app : App
-tecol_app = with_rules (with_version (new_app (codes "tecol"))) tecol_rules
+tecol_app = with_rules (program_app (codes "tecol")) tecol_rules
 
 -- what is made where these flags are up: --reverse, --words and --check
 abbrev pub mode_by : Bool → Bool → Bool → TecolMode

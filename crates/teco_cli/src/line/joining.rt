@@ -53,9 +53,7 @@ fn is_option(word: &str, row: &OptionRow) -> bool
 {
     match row.takes {
         Takes::Nothing | Takes::Operand | Takes::MaybeOperand | Takes::Operands => false,
-        Takes::Text | Takes::Texts | Takes::Number(..) | Takes::NumberOr(..) => is_name_of(
-            word, row,
-        ),
+        Takes::Text | Takes::Texts | Takes::Number(..) => is_name_of(word, row),
     }
 }
 

@@ -8,18 +8,18 @@ use crate::{MOST_STEPS, OptionRow, Takes};
 use teco_core::DEPTH_LIMIT;
 
 /// Every option, in the order of the help, and then the operands.
-static OPTIONS: [OptionRow; 15] = [
+static OPTIONS: [OptionRow; 17] = [
     OptionRow {
         name: "execute",
         short: Some('e'),
-        takes: Takes::Text,
+        takes: Takes::Texts,
         value: "STRINGS",
         help: "The command strings, whose output replaces INPUT.out: $ is ESC, ^J a line end, and !! begins a comment",
     },
     OptionRow {
         name: "pages",
         short: Some('p'),
-        takes: Takes::Text,
+        takes: Takes::Texts,
         value: "STRINGS",
         help: "The same, run on each page, and then an exit; the output goes to standard output",
     },
@@ -33,9 +33,16 @@ static OPTIONS: [OptionRow; 15] = [
     OptionRow {
         name: "bytes",
         short: Some('b'),
-        takes: Takes::Text,
+        takes: Takes::Texts,
         value: "FILE",
         help: "The file that the commands are read from, as they are",
+    },
+    OptionRow {
+        name: "assign",
+        short: Some('v'),
+        takes: Takes::Texts,
+        value: "A=TEXT",
+        help: "Puts TEXT into register A before the first string, or by A:=N the number N; may be repeated",
     },
     OptionRow {
         name: "output",
@@ -68,9 +75,9 @@ static OPTIONS: [OptionRow; 15] = [
     OptionRow {
         name: "limit",
         short: None,
-        takes: Takes::NumberOr(0, MOST_STEPS, "1000000"),
+        takes: Takes::Number(0, MOST_STEPS),
         value: "N",
-        help: "The most steps that each command string may take, at most 1000000000000",
+        help: "The most steps of each command string, at most 1000000000000; without it 1000000, and 1000 for each byte of INPUT if an option gives the commands",
     },
     OptionRow {
         name: "seconds",
@@ -99,6 +106,13 @@ static OPTIONS: [OptionRow; 15] = [
         takes: Takes::Nothing,
         value: "",
         help: "Explains each error, and with --prompt what was done, on standard error",
+    },
+    OptionRow {
+        name: "quiet",
+        short: Some('q'),
+        takes: Takes::Nothing,
+        value: "",
+        help: "Tells nothing on standard error of how a run ends; the status stays",
     },
     OptionRow {
         name: "input",

@@ -15,6 +15,7 @@ use teco_fs::{MemoryDisk, RefusedCall};
 use teco_io::{MemorySource, Source};
 use teco_serve::ClockAlarm;
 
+mod arguments;
 mod disk;
 mod ending;
 mod input;

@@ -1,6 +1,5 @@
-use Rattle.std.proofs.Common.{◌≡◌, ◌∙◌, ◌≤◌, ℕ, refl, sym, ap, subst, Option, Some, None, codes, arith, rules}
+use Rattle.std.proofs.Common.{◌≡◌, ◌∙◌, ◌≤◌, ℕ, sym, ap, subst, Option, Some, None, codes, rules}
 use Rattle.std.specs.Prelude.{IfSome, option_map}
-use Rattle.std.specs.Option.{IsSome, IsSomeAnd}
 use Rattle.std.specs.String.{string_bytes}
 use Rattle.clap.proofs.CallerLemmas.{some_of_text}
 use Rattle.clap.proofs.WalkLemmas.{first_value-rows}
@@ -19,17 +18,12 @@ returns-clause-line c =
     let rows = rows_of (found_of c.args.matches.now) in
     let input : first_of (codes "input") rows ≡ Some (string_bytes c.in_ok-input.input) =
     sym (first_value-rows (found_of c.args.matches.now) (codes "input")) ∙ (sym c.get_str.ensures ∙ ap (option_map (λ s. s.now)) c.unwrap.ensures ∙ ap Some (sym c.in_ok-input.ensures.ok)) in
-    let limit = c.number_at.ensures ∙ c.unwrap-limit.ensures in
-    search (rules, input, limit)
+    search (rules, input)
 
 -- what every parse gives for a number
 is_number : (text : Option Text) (low high : ℕ) → IfSome text (IsUnsignedIn low high) → IfSome text IsNumber
 is_number None low high h = tt
 is_number (Some text) low high h = (h.0, h.1)
-
-is_number_there : (text : Option Text) (low high : ℕ) → IsSomeAnd text (IsUnsignedIn low high) → IfSome text IsNumber
-is_number_there None low high h = tt
-is_number_there (Some text) low high h = (h.0, h.1)
 
 within : (text : Option Text) (low high : ℕ) (number : Option ℕ) → option_map number_of text ≡ number → IfSome text (IsUnsignedIn low high)
     → IfSome number (λ n. (low ≤ n) × (n ≤ high))
@@ -39,18 +33,12 @@ within text low high number is h = subst (λ o. IfSome o (λ n. (low ≤ n) × (
     so None h = tt
     so (Some t) h = (h.2, h.3)
 
-most : (text : Option Text) (low high number : ℕ) → option_map number_of text ≡ Some number → IsSomeAnd text (IsUnsignedIn low high) → number ≤ high
-most None low high number is h = absurd h
-most (Some text) low high number is h =
-    let same : number_of text ≡ number = cc in
-    omega (arith, h.3)
+most : (number : Option ℕ) (low high : ℕ) → IfSome number (λ n. (low ≤ n) × (n ≤ high)) → IfSome number (λ n. n ≤ high)
+most None low high h = tt
+most (Some number) low high h = h.1
 
-is_there : (text : Option Text) (low high : ℕ) (number : Option ℕ) → option_map number_of text ≡ number → IsSomeAnd text (IsUnsignedIn low high) → IsSome number
-is_there None low high number is h = absurd h
-is_there (Some text) low high number is h = subst (λ (o : Option ℕ). IsSome o) is refl
-
-pub number_at-requires : goal.number_at-requires
-number_at-requires c = is_number_there _ _ _ c.requires.given.limit
+pub number_at-limit-requires : goal.number_at-limit-requires
+number_at-limit-requires c = is_number _ _ _ c.requires.given.limit
 
 pub number_at-seconds-requires : goal.number_at-seconds-requires
 number_at-seconds-requires c = is_number _ _ _ c.requires.given.seconds
@@ -61,13 +49,9 @@ number_at-undo-requires c = is_number _ _ _ c.requires.given.undo
 pub number_at-page_lines-requires : goal.number_at-page_lines-requires
 number_at-page_lines-requires c = is_number _ _ _ c.requires.given.page_lines
 
-pub unwrap-limit-requires : goal.unwrap-limit-requires
-unwrap-limit-requires c = is_there _ _ _ _ c.number_at.ensures c.requires.given.limit
-
 pub returns-clause-range : goal.returns-clause-range
 returns-clause-range c =
-    let limit = c.number_at.ensures ∙ c.unwrap-limit.ensures in
-    (most _ 0 1000000000000 c.unwrap-limit.result limit c.requires.given.limit, within _ _ _ _ c.number_at-undo.ensures c.requires.given.undo)
+    (most _ _ _ (within _ _ _ _ c.number_at-limit.ensures c.requires.given.limit), within _ _ _ _ c.number_at-undo.ensures c.requires.given.undo)
 
 pub returns-clause-page_lines : goal.returns-clause-page_lines
 returns-clause-page_lines c = within _ _ _ _ c.number_at-page_lines.ensures c.requires.given.page_lines

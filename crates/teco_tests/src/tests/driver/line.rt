@@ -1,15 +1,15 @@
 //! What the words of a line say.
+use super::arguments::Arguments;
 use super::ending::ends_so;
 use super::word::OnPages;
-use super::{ending, word, words_of};
+use super::{arguments, ending, word, words_of};
 use crate::tests::bytes::{has, is};
 use crate::tests::rows::{Cells, Rule, all_hold, cells_of, number_or};
 use std::alloc::Global;
-use std::io;
 use std::test::*;
 use teco_cli::{
-    Commands, Line, LineFault, fault_of_words, is_standard_input, is_standard_output, line_of,
-    not_text, refused_status,
+    AssignedValue, Assignment, Commands, Line, LineFault, is_standard_input, is_standard_output,
+    line_of, refused_status,
 };
 use teco_core::NoMemory;
 
@@ -24,14 +24,20 @@ fn commands_told(alloc: Global, commands: &Commands) -> Result<String, NoMemory>
     }
 }
 
-/// What a line says but for its commands: the input, more of them, the output, whether it is in place, prompts, checks and explains, the
-/// limit, the seconds, the depth, and the lines of a page.
+/// What a line says but for its commands and its values: the input, more of them, the output, whether it is in place, prompts, checks,
+/// explains and is quiet, the limit, the seconds, the depth, and the lines of a page.
 fn rest_told(alloc: Global, line: &Line) -> Result<String, NoMemory> {
     let (input, more, output) = (&line.input, &line.more, &line.output);
     let seconds = line.seconds;
     format!(in alloc;
-        "{input} {more:?} {output:?} {:?} {} {seconds:?} {:?}",
-        [line.in_place, line.prompt, line.check, line.explain],
+        "{input} {more:?} {output:?} {:?} {:?} {seconds:?} {:?}",
+        [
+            line.in_place,
+            line.prompt,
+            line.check,
+            line.explain,
+            line.quiet
+        ],
         line.limit,
         [line.undo, line.page_lines]
     )
@@ -129,27 +135,26 @@ const ROWS: &str = "
     teco -o => => => 3
     teco -- -e EX$$ in => => => 3
     teco --what in => => => 3
-    teco -i -i in => => => 3
     teco --help => => => 0
     teco -V => => => 0
     // What the other options say.
-    teco in => => in [] None [false, false, false, false] 1000000 None [None, None]
-    teco --limit 5 --output o --prompt in => => in [] Some(\"o\") [false, true, false, false] 5 None [None, None]
-    teco in --limit=1000000000000 --explain -o - => => in [] Some(\"-\") [false, false, false, true] 1000000000000 None [None, None]
-    teco --seconds 1 in => => in [] None [false, false, false, false] 1000000 Some(1) [None, None]
-    teco in --seconds=1000000000000 => => in [] None [false, false, false, false] 1000000 Some(1000000000000) [None, None]
-    teco --undo 1 in => => in [] None [false, false, false, false] 1000000 None [Some(1), None]
-    teco in --undo=100000 => => in [] None [false, false, false, false] 1000000 None [Some(100000), None]
-    teco in -i => => in [] None [true, false, false, false] 1000000 None [None, None]
-    teco -i in => => in [] None [true, false, false, false] 1000000 None [None, None]
-    teco -b EX --check in => => in [] None [false, false, true, false] 1000000 None [None, None]
+    teco in => => in [] None [false, false, false, false, false] None None [None, None]
+    teco --limit 5 --output o --prompt in => => in [] Some(\"o\") [false, true, false, false, false] Some(5) None [None, None]
+    teco in --limit=1000000000000 --explain -o - => => in [] Some(\"-\") [false, false, false, true, false] Some(1000000000000) None [None, None]
+    teco --seconds 1 in => => in [] None [false, false, false, false, false] None Some(1) [None, None]
+    teco in --seconds=1000000000000 => => in [] None [false, false, false, false, false] None Some(1000000000000) [None, None]
+    teco --undo 1 in => => in [] None [false, false, false, false, false] None None [Some(1), None]
+    teco in --undo=100000 => => in [] None [false, false, false, false, false] None None [Some(100000), None]
+    teco in -i => => in [] None [true, false, false, false, false] None None [None, None]
+    teco -i in => => in [] None [true, false, false, false, false] None None [None, None]
+    teco -b EX --check in => => in [] None [false, false, true, false, false] None None [None, None]
     teco --check --prompt in => => => 3
-    teco -p 0K in --in-place a b -- -c => => in [\"a\", \"b\", \"-c\"] None [true, false, false, false] 1000000 None [None, None]
-    teco -e EX$$ in - => => in [\"-\"] None [false, false, false, false] 1000000 None [None, None]
-    teco -e EX$$ - => => - [] None [false, false, false, false] 1000000 None [None, None]
-    teco -o -b in => => in [] Some(\"-b\") [false, false, false, false] 1000000 None [None, None]
-    teco --page-lines 1 in => => in [] None [false, false, false, false] 1000000 None [None, Some(1)]
-    teco in --page-lines=1000000000 => => in [] None [false, false, false, false] 1000000 None [None, Some(1000000000)]
+    teco -p 0K in --in-place a b -- -c => => in [\"a\", \"b\", \"-c\"] None [true, false, false, false, false] None None [None, None]
+    teco -e EX$$ in - => => in [\"-\"] None [false, false, false, false, false] None None [None, None]
+    teco -e EX$$ - => => - [] None [false, false, false, false, false] None None [None, None]
+    teco -o -b in => => in [] Some(\"-b\") [false, false, false, false, false] None None [None, None]
+    teco --page-lines 1 in => => in [] None [false, false, false, false, false] None None [None, Some(1)]
+    teco in --page-lines=1000000000 => => in [] None [false, false, false, false, false] None None [None, Some(1000000000)]
     teco --page-lines 0 in => => => 3
     teco --page-lines 1000000001 in => => => 3
     teco --page-lines -1 in => => => 3
@@ -158,19 +163,85 @@ const ROWS: &str = "
     teco --seconds 0 in => => => 3
     teco --seconds x in => => => 3
     teco --seconds 1000000000001 in => => => 3
-    teco --seconds 1 --seconds 1 in => => => 3
     teco --seconds in => => => 3
     teco --undo 0 in => => => 3
     teco --undo 100001 in => => => 3
     teco --undo x in => => => 3
     teco -i=true in => => => 3
+    teco in -q => => in [] None [false, false, false, false, true] None None [None, None]
+    teco --quiet --explain in => => in [] None [false, false, false, true, true] None None [None, None]
+    // Of a setting that is given again the last one stands; commands are not dropped.
+    teco -i -i in => => in [] None [true, false, false, false, false] None None [None, None]
+    teco -qq -i --in-place in => => in [] None [true, false, false, false, true] None None [None, None]
+    teco --limit 5 --limit 10 in => => in [] None [false, false, false, false, false] Some(10) None [None, None]
+    teco --seconds 1 in --seconds=2 => => in [] None [false, false, false, false, false] None Some(2) [None, None]
+    teco --undo 1 --undo 2 --page-lines 3 --page-lines 4 in => => in [] None [false, false, false, false, false] None None [Some(2), Some(4)]
+    teco -o a -ob in => => in [] Some(\"b\") [false, false, false, false, false] None None [None, None]
+    teco --limit x --limit 5 in => => => 3
+    teco --limit 5 --limit x in => => => 3
+    teco -p 0K -p 0K in => => => 3
+    // What is put into registers is told below; these are refused.
+    teco -v A in => => => 3
+    teco -v in => => => 3
+    teco -v = in => => => 3
+    teco -v ?=x in => => => 3
+    teco -v AB=x in => => => 3
+    teco -v A: in => => => 3
+    teco -v A:x=1 in => => => 3
+    teco -v A:= in => => => 3
+    teco -v A:=- in => => => 3
+    teco -v A:=1x in => => => 3
+    teco -v A:=2147483648 in => => => 3
+    teco -v A:=-2147483649 in => => => 3
+    teco -v A=x -v B in => => => 3
     ";
 
-/// Whether an argument that is not UTF-8 leads to the status of a refused line.
-fn is_refused_without_text(alloc: Global) -> bool {
-    let error = io::Error::from(io::ErrorKind::InvalidData);
-    is_refused(&fault_of_words(error, not_text::<Line>(alloc)), "3")
+/// What is put into registers: the number of each register, and the bytes of its text or its number.
+fn values_told(alloc: Global, values: &[Assignment]) -> Result<String, NoMemory> {
+    let mut told = String::new(alloc);
+    for assignment in values {
+        let register = assignment.register.index();
+        let one = match &assignment.value {
+            AssignedValue::Text(text) => format!(in alloc; "{register} {text:?} ")?,
+            AssignedValue::Number(number) => format!(in alloc; "{register} {number} ")?,
+        };
+        told.push_str(one.as_str())?;
+    }
+    Ok(told)
 }
+
+/// Words, and what they put into registers.
+#[derive(Clone, Copy)]
+struct Values;
+
+impl Rule for Values {
+    fn holds(&self, alloc: Global, row: &str) -> bool {
+        let [words, told, ..] = cells_of(row);
+        match line_of(alloc, words_of(alloc, words)) {
+            Ok(line) => match values_told(alloc, &line.values) {
+                Ok(values) => values.as_str().trim_end() == told,
+                Err(NoMemory) => false,
+            },
+            Err(_) => false,
+        }
+    }
+}
+
+const VALUES: &str = "
+    teco in =>
+    teco -v A=bc in => 0 [98, 99]
+    teco -v z=b in => 25 [98]
+    teco -v 0= in => 26 []
+    teco in --assign=9=a=b => 35 [97, 61, 98]
+    teco -vA=:=1 in => 0 [58, 61, 49]
+    teco -v A=x -v A:=-5 -v A=y in => 0 [120] 0 -5 0 [121]
+    teco -v B:=0 in => 1 0
+    teco -v B:=007 in => 1 7
+    teco -v B:=+7 in => 1 7
+    teco -v B:=2147483647 in => 1 2147483647
+    teco -v B:=-2147483648 in => 1 -2147483648
+    teco -e EX$$ -v A=b in => 0 [98]
+    ";
 
 /// Names, and whose each is: standard input's, standard output's, or both.
 #[derive(Clone, Copy)]
@@ -202,7 +273,8 @@ fn gives_what_the_words_say_and_says_how_it_ends(rt: HostRuntime) {
     let alloc = rt.alloc();
     all_hold(&rt, alloc, &Lines::Say, ROWS);
     all_hold(&rt, alloc, &Lines::End, ending::ROWS);
+    all_hold(&rt, alloc, &Values, VALUES);
     all_hold(&rt, alloc, &Names, NAMES);
     all_hold(&rt, alloc, &OnPages, word::ROWS);
-    assert!(rt; is_refused_without_text(alloc) || is_refused_without_text(alloc));
+    all_hold(&rt, alloc, &Arguments, arguments::ROWS);
 }
