@@ -6,6 +6,7 @@ use std::rt::Env;
 use teco_cli::{Line, LineFault, refused_status, words_given};
 
 /// The arguments of a program, with a blank between them. In an argument ? is a byte that is in no UTF-8.
+#[derive(Drop)]
 struct Given<'a> {
     words: &'a str,
 }

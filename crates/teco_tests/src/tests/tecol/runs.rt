@@ -6,6 +6,9 @@ pub(crate) const ROWS: &str = "
     - tecol => Y<\n\tFSa$b$;>EX$$\n => Y<FSa\x1bb\x1b;>EX\x1b\x1b
     - tecol --output=- - => Y<\n\tFSa$b$;>EX$$\n => Y<FSa\x1bb\x1b;>EX\x1b\x1b
     - tecol -o out in => => => => => => in == Y<\n\tFSa$b$;>EX$$\n ++ out == old => in == Y<\n\tFSa$b$;>EX$$\n ++ out == Y<FSa\x1bb\x1b;>EX\x1b\x1b
+    - // Of an option that is given again the last one stands.
+    - tecol -o other --output out in => => => => => => in == Y<\n\tFSa$b$;>EX$$\n ++ out == old => in == Y<\n\tFSa$b$;>EX$$\n ++ out == Y<FSa\x1bb\x1b;>EX\x1b\x1b
+    - tecol -r -r in => => YHT$$\n => => => => in == YHT\x1b\x1b
     - // Over its own input.
     - tecol -o in in => => => => => => in == Y<\n\tFSa$b$;>EX$$\n => in == Y<FSa\x1bb\x1b;>EX\x1b\x1b
     - // Back, with the name of the input in no line.
