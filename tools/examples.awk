@@ -79,11 +79,15 @@ function trapped(    line, cases, k) {
     close(block "/traps")
 }
 
-# What is inside the backquotes of a column of a table.
+# What is inside the backquotes of a column of a table. Two of them, perhaps with a blank inside, stand around what has one.
 function code(column) {
     gsub(/\\\|/, "|", column)
     if (!match(column, /`.*`/)) return ""
     column = substr(column, RSTART + 1, RLENGTH - 2)
+    if (column ~ /^`.*`$/) {
+        column = substr(column, 2, length(column) - 2)
+        gsub(/^ | $/, "", column)
+    }
     gsub(/`, `/, " ", column)
     return column
 }

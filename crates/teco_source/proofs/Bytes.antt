@@ -24,7 +24,7 @@ at mode bytes blanks = record { mode = mode; bytes = bytes; blanks = blanks }
 
 marked_capital : (c : ℕ) → 64 ≤ c → c ≤ 95 → marked c ≡ Some ((c - 64) ∷ [])
 marked_capital c least most =
-    rw (differs c 36 (λ is. absurd (omega arith)), differs c 33 (λ is. absurd (omega arith)), differs c 126 (λ is. absurd (omega arith)), differs c 61 (λ is. absurd (omega arith)), differs c 63 (λ is. absurd (omega arith)), differs c 46 (λ is. absurd (omega arith)), le-leb 64 c least, le-leb c 95 most) refl
+    rw (differs c 36 (λ is. absurd (omega arith)), differs c 33 (λ is. absurd (omega arith)), differs c 126 (λ is. absurd (omega arith)), differs c 61 (λ is. absurd (omega arith)), differs c 63 (λ is. absurd (omega arith)), differs c 96 (λ is. absurd (omega arith)), differs c 46 (λ is. absurd (omega arith)), le-leb 64 c least, le-leb c 95 most) refl
 
 marked_control : (b : ℕ) → b < 32 → marked (b + 64) ≡ Some (b ∷ [])
 marked_control b h = let is : b + 64 - 64 ≡ b = omega arith in marked_capital (b + 64) (omega arith) (omega arith) ∙ ap (λ c. Some (c ∷ [])) is

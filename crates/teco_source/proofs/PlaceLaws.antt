@@ -81,9 +81,10 @@ marked_size b =
     split (eqb b 126) (λ e. rw (a, c, e) (omega arith)) (λ d.
     split (eqb b 61) (λ e. rw (a, c, d, e) (omega arith)) (λ f.
     split (eqb b 63) (λ e. rw (a, c, d, f, e) (omega arith)) (λ g.
-    split (eqb b 46) (λ e. rw (a, c, d, f, g, e) (omega arith)) (λ h.
-    split (nat_le 64 b && nat_le b 95) (λ e. rw (a, c, d, f, g, h, e) (omega arith)) (λ i.
-    split (nat_le 97 b && nat_le b 122) (λ e. rw (a, c, d, f, g, h, i, e) (omega arith)) (λ e. rw (a, c, d, f, g, h, i, e) (omega arith)))))))))
+    split (eqb b 96) (λ e. rw (a, c, d, f, g, e) (omega arith)) (λ k.
+    split (eqb b 46) (λ e. rw (a, c, d, f, g, k, e) (omega arith)) (λ h.
+    split (nat_le 64 b && nat_le b 95) (λ e. rw (a, c, d, f, g, k, h, e) (omega arith)) (λ i.
+    split (nat_le 97 b && nat_le b 122) (λ e. rw (a, c, d, f, g, k, h, i, e) (omega arith)) (λ e. rw (a, c, d, f, g, k, h, i, e) (omega arith))))))))))
 
 marked_begun : (o : Option (List ℕ)) (s : State) → size o ≤ 1 → bytes_begun (put_marked o s) ≤ suc (held s)
 marked_begun (Some bs) s h =

@@ -34,10 +34,11 @@ marks_begin_comments = (refl, refl, refl, refl, refl, refl)
 
 carets_are_read :
     (commands_of (codes "^a^A^N^~N^=N^?^$^.^^") ≡ Ok (1 ∷ 1 ∷ 14 ∷ 94 ∷ 78 ∷ 94 ∷ 78 ∷ 127 ∷ 36 ∷ 30 ∷ []))
+    × (commands_of (codes "^`a'^`") ≡ Ok (codes "'a''"))
     × (commands_of (codes "a\n^7^") ≡ Err 2)
     × (commands_of (codes "ab^") ≡ Err 2)
 unfolding ends_line step run commands_from
-carets_are_read = (refl, refl, refl)
+carets_are_read = (refl, refl, refl, refl)
 
 abbrev writes : String → String → Type 0
 writes text line = line_written (line_mode []) 2 (keys text) None ≡ codes line

@@ -19,14 +19,16 @@ start = record { mode = First; bytes = []; blanks = [] }
 abbrev pub is_blank : ℕ → Bool
 is_blank b = b == code " " || b == code "\t" || b == code "\r"
 
--- What a caret and a byte are: `^$` and `^!` a dollar and an exclamation mark, `^~` and `^=` a caret, `^?` DEL, `^.` nothing, and
--- a letter or one of `@[\]^_` a control byte, which is 64 below the capital. A caret stands before no other byte.
+-- What a caret and a byte are: `^$` and `^!` a dollar and an exclamation mark, `^~` and `^=` a caret, a caret and a grave accent a
+-- single quote, `^?` DEL, `^.` nothing, and a letter or one of `@[\]^_` a control byte, which is 64 below the capital. A caret stands
+-- before no other byte.
 abbrev pub marked : ℕ → Option (List ℕ)
 marked b =
     if b == code "$" || b == code "!" then Some (b ∷ [])
     else (if b == code "~" || b == code "=" then Some (codes "^") else (if b == code "?" then Some (codes "\u{7f}")
-    else (if b == code "." then Some [] else (if nat_le (code "@") b && nat_le b (code "_") then Some ((b - 64) ∷ [])
-    else (if nat_le (code "a") b && nat_le b (code "z") then Some ((b - 96) ∷ []) else None)))))
+    else (if b == code "`" then Some (codes "'") else (if b == code "." then Some []
+    else (if nat_le (code "@") b && nat_le b (code "_") then Some ((b - 64) ∷ [])
+    else (if nat_le (code "a") b && nat_le b (code "z") then Some ((b - 96) ∷ []) else None))))))
 
 -- Any other byte is itself, but `$` is ESC.
 abbrev pub meant : ℕ → ℕ

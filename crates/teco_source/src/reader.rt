@@ -78,6 +78,7 @@ fn after_caret(byte: u8) -> Marked
         b'$' | b'!' => Marked::Byte(byte),
         b'~' | b'=' => Marked::Byte(b'^'),
         b'?' => Marked::Byte(127),
+        b'`' => Marked::Byte(b'\''),
         b'.' => Marked::Nothing,
         b'@'..=b'_' => Marked::Byte(byte - 64),
         b'a'..=b'z' => Marked::Byte(byte - 96),

@@ -8,6 +8,9 @@ pub(crate) const ROWS: &str = "
     - teco -e I5^$$HT$$ in => => 5$ => => => 2 => in == hi\n
     - // Carets in a text: a caret, DEL, a dollar sign, an exclamation mark and a control byte.
     - teco -e Ix^=^?^$!^!^e$HT$$ in => => x^\x7f$!!\x05 => => => 2 => in == hi\n
+    - // A single quote of a word between single quotes.
+    - teco -e YZ\"GZJ-A-10\"NIx^`s$^`^`EX$$ in => => => => => => in == hi => in == hi ++ in.out == hix's
+    - teco -p <.-Z;L-A-10\"ER^`I;$L> in => => hi;\nho; => => => => in == hi\nho
     - // A caret and a letter are a control command; the word ends without an exit.
     - teco -e @^UA/xy/GAHT$$ in => => xy => => => 2 => in == hi\n
     - teco -f page.teco in => => 3\r\na\nbhi\n => => => => in == hi\n ++ page.teco == #!/usr/bin/env -S teco -f\n!!types a line\nY$$  \n\tZ=$$ !!its length\nIa^Jb$ HT$$\nEX$$\n => in == hi\n ++ page.teco == #!/usr/bin/env -S teco -f\n!!types a line\nY$$  \n\tZ=$$ !!its length\nIa^Jb$ HT$$\nEX$$\n ++ in.out == a\nbhi\n

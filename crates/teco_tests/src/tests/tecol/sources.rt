@@ -28,6 +28,9 @@ pub(super) const READ: &str = "
     - ^$^!^~^=^?^.a => $!^^\x7fa
     - ^@^A^a^I^J^Z^z^[^\\^]^^^_ => \0\x01\x01\t\n\x1a\x1a\x1b\x1c\x1d\x1e\x1f
     - I !^!a => I !!a
+    - // A single quote, also where it stands for a command.
+    - ^`1\"EI^`'$^` => '1\"EI''\x1b'
+    - I ^`^.\n => I '
     - // Nothing keeps blanks: at the end of a line, at the beginning of one, and at the end.
     - Ia ^.\n ^. b$ => Ia  b\x1b
     - Ia ^. => Ia\x20
@@ -46,4 +49,5 @@ pub(super) const UNREADABLE: &str = "
     - 1=^\n2= => 2
     - ^ a^b => 0
     - ^~^~^~^# => 6
+    - 1\"E^'$ => 3
     - !!^7\n ^7^8 => 6";
