@@ -3,10 +3,11 @@ ghost use Rattle.std.specs.Prelude.{◌≡◌, ◌≤◌, length};
 ghost use Rattle.teco_messages.specs.Spot.{spot_of};
 
 use crate::remarks::Remark;
-use crate::sentences::{opening_of, show_remark};
+use crate::sentences::{is_open_conditional, opening_of, show_remark};
+use memchr::memchr;
 use std::alloc::Global;
 use std::fmt::Write;
-use teco_core::NoMemory;
+use teco_core::{ESC, NoMemory};
 use teco_messages::Spot;
 use teco_scan::Span;
 
@@ -58,10 +59,28 @@ fn place_in(places: Option<&[usize]>, source: &[u8], at: usize) -> usize {
     }
 }
 
+/// What is told of a conditional that isn't closed, where a source has no single quote: a shell takes each out of an argument between
+/// single quotes.
+const QUOTE: &str = "; between single quotes of a shell ' is spelled ^`";
+
+/// Puts a line at the end that tells of the first ESC of a source, if it has one. It may be a file of bytes, whose dollar signs, carets
+/// and line ends would be lost.
+fn report_escape(out: &mut String, name: &str, source: &[u8]) -> Result<(), NoMemory> {
+    let Some(at) = memchr(ESC, source) else {
+        return Ok(());
+    };
+    let mut walker = Walker::new();
+    let spot = walker.spot_at(source, at);
+    write!(
+        out,
+        "{name}:{spot}: hint: a source has $ for this ESC; teco -b takes the bytes of a file as they are\n"
+    )
+}
+
 /// Puts a line for each remark on a part of the commands at the end, with the name and the line and the column of its source.
 ///
 /// `places` tells for each byte of the part where in the source it begins; without it the part is the source. An opening that is in
-/// another part is not told.
+/// another part is not told. A hint on an ESC of the source comes first.
 pub fn report_part(
     out: &mut String,
     name: &str,
@@ -71,6 +90,10 @@ pub fn report_part(
     part: Span,
     remarks: &[Remark],
 ) -> Result<(), NoMemory> {
+    if places.is_some() {
+        report_escape(out, name, source)?;
+    }
+    let lacks_quotes = places.is_some() && memchr(b'\'', source).is_none();
     let mut walker = Walker::new();
     let mut openings = Walker::new();
     for remark in remarks {
@@ -87,6 +110,9 @@ pub fn report_part(
         };
         write!(out, "{name}:{spot}: ")?;
         show_remark(out, commands, remark, opening)?;
+        if lacks_quotes && is_open_conditional(commands, remark) {
+            out.push_str(QUOTE)?;
+        }
         out.push_str("\n")?;
     }
     Ok(())

@@ -170,6 +170,20 @@ pub fn opening_of(remark: &Remark) -> Option<usize> {
     }
 }
 
+/// Whether a remark tells of a conditional that isn't closed.
+pub fn is_open_conditional(commands: &[u8], remark: &Remark) -> bool {
+    let What::Fault(fault) = remark.what else {
+        return false;
+    };
+    let text = part(commands, fault.inside);
+    let opening = match fault.wrong {
+        Wrong::Unended => Some(fault.at.saturating_sub(fault.inside.from)),
+        Wrong::Stray(_, opening) => opening,
+        _ => None,
+    };
+    matches!(opener(text, opening), Some([b'"', ..]))
+}
+
 fn show_wrong(
     out: &mut String,
     text: &[u8],

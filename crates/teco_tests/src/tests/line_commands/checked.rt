@@ -15,6 +15,13 @@ pub(crate) const ROWS: &str = "
     - teco --check -p 3M?$ none => => --pages:1:2: IQN: after M comes a register, A to Z or 0 to 9\n => => => 2
     - teco --check -p J<FSi$o;> none => => --pages:1:3: UTC: the second text of FS has no ESC; two ESC end the command string\n => => => 2
     - teco --check -b bytes none => => bytes:2:1: IQN: after M comes a register, A to Z or 0 to 9\n => => => 2 => bytes == Y\nM?\x1b\x1bEX\x1b\x1b
+    - // A conditional of which a shell took the end.
+    - teco --check -e YZ\"GIa$EX$$ none => => --execute:1:3: UTC: \"G has no '; between single quotes of a shell ' is spelled ^`\n => => => 2
+    - teco --check -p Z\"GIa$^` none =>
+    - teco --check -b bytes none => => bytes:1:3: UTC: \"G has no '\n => => => 2 => bytes == YZ\"GEX\x1b\x1b
+    - // A file of bytes that is taken for a source. It is one of two, and the line is that of its own.
+    - teco --check -f lib.teco -f macro none => => macro:1:7: hint: a source has $ for this ESC; teco -b takes the bytes of a file as they are\n => => => => lib.teco == @^UA/0L Ix^=$ /$$\n!!puts in x and a caret\n ++ macro == YI5 $ a\x1b\x1bEX\x1b\x1b
+    - teco --check -b macro none => => => => => => macro == YI5 $ a\x1b\x1bEX\x1b\x1b
     - // A hint is no fault.
     - teco --check -e Y$$EX$ none => => --execute:1:7: hint: this is not run: it ends with one ESC, and wants two\n
     - teco --check -f wrong -f none in => => => teco: wrong:2:3: a caret before what it cannot stand before\n => => 3 => in == hi\n ++ wrong == HKEX$$\nIa^+$$\n

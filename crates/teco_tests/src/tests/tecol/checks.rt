@@ -36,7 +36,15 @@ pub(super) const FAULTS: &str = "
     - // Blocks that cross, and blocks that don't close.
     - 1<1\"G1=>'$$ => -:1:8: BNI: > closes \"G at 1:4\n
     - Y<J$$ => -:1:2: UTC: < has no >\n
-    - 0\"NJ$$ => -:1:2: UTC: \"N has no '\n
+    - // Where a conditional isn't closed, and the source has no single quote, a shell may have taken it.
+    - 0\"NJ$$ => -:1:2: UTC: \"N has no '; between single quotes of a shell ' is spelled ^`\n
+    - 0\"NI'$$ => -:1:2: UTC: \"N has no '\n
+    - <1\"E2=>$$ => -:1:7: BNI: > closes \"E at 1:3; between single quotes of a shell ' is spelled ^`\n
+    - 1\"E|2|3$$ => -:1:6: ILL: a second | in the conditional at 1:2; between single quotes of a shell ' is spelled ^`\n
+    - @^UA/1\"EJ/MA$$ => -:1:7: UTC: \"E has no '; between single quotes of a shell ' is spelled ^`\n
+    - @^UA/1\"EJ/MAI'$$ => -:1:7: UTC: \"E has no '\n
+    - <1\"E2$$ => -:1:3: UTC: \"E has no '; between single quotes of a shell ' is spelled ^`\n
+    - 1\"E<2$$ => -:1:4: UTC: < has no >\n
     - <<<<<<<<<<<<<<<<<<<<<<<<<<<<<<<<<<<<<<<<<<<<<<<<<<<<<<<<<<<<<<<<<$$ => -:1:65: PDO: more than 64 blocks are open\n
     - // A jump to no tag that it can reach.
     - Oout$!in!$$ => -:1:1: TAG: no tag !out! is in this list or one around it\n
@@ -96,6 +104,9 @@ pub(super) const HINTS: &str = "
     - YEX$$1= => -:1:8: hint: this is not run: two ESC end a command string\n
     - YEX$$I$ => -:1:8: hint: this is not run: it ends with one ESC, and wants two\n
     - YEX$$ \n =>\x20
+    - // An ESC as a byte of the source: the first one is told, before all else.
+    - YHT\x1b\x1bEX\x1b\x1b => -:1:4: hint: a source has $ for this ESC; teco -b takes the bytes of a file as they are\n
+    - Y$$\n\tEX;$\x1b => -:2:6: hint: a source has $ for this ESC; teco -b takes the bytes of a file as they are\n-:2:4: hint: EX ends the run before this\n
     - // What the whole lacks.
     - Y$$ => -:1:4: hint: no EX: nothing is written\n
     - EX$$ => -:1:5: hint: no page is read: Y reads the first\n
@@ -105,4 +116,5 @@ pub(super) const HINTS: &str = "
 
 /// Bytes and what is told of them: the places are those of the bytes.
 pub(super) const BYTES: &str = "
-    - Y\nEX>\x1b\x1b => -:2:3: BNI: > has no <\n";
+    - Y\nEX>\x1b\x1b => -:2:3: BNI: > has no <\n
+    - 0\"NJ\x1b\x1b => -:1:2: UTC: \"N has no '\n";
