@@ -52,11 +52,9 @@ built: $(PROGRAMS) $(LIBRARY) out/completions out/teco.7
 help:
 	@sed -n 's/^## //p' Makefile
 
-## make try           a first look in a minute or two: runs the program on a small file, and proves nothing
+## make try           a first look in a minute or two: makes out/teco-unproved, to type at, and edits a file with it; proves nothing
 try:
-	@mkdir -p out
-	printf 'one\n\ftwo\n\fthree\n' > out/in
-	cd crates/teco && $(RT) try --seconds 600 --data in=../../out/in -- -e 'YHT$$$$PHT$$$$HK$$$${$$$$HT$$$$EX$$$$' in
+	tools/try-program
 
 ## make quick         looks at the layout and the pages, and checks what differs from HEAD: seconds, and what the checks of the crates take
 quick:
