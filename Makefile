@@ -27,7 +27,7 @@ INSTALL = install
 NAMES = teco teco-debug tecol teco-term teco-screen
 # What is installed below DOCDIR: these, and the pages and programs in folders of their own.
 TOP_PAGES = README.md CHANGELOG.md SECURITY.md
-PAGES = docs/*.md
+PAGES = docs/*.md docs/*.svg
 EXAMPLES = examples/*.md examples/*.tec examples/*.in examples/*.out examples/*.typed
 PROGRAMS = out/teco out/teco-debug out/tecol out/teco-term out/teco-screen
 LIBRARY = out/libteco_c.a out/teco.pc
@@ -155,6 +155,7 @@ install: all
 	$(INSTALL) -m 644 $(TOP_PAGES) '$(DESTDIR)$(DOCDIR)'
 	$(INSTALL) -m 644 $(PAGES) '$(DESTDIR)$(DOCDIR)/docs'
 	$(INSTALL) -m 644 $(EXAMPLES) '$(DESTDIR)$(DOCDIR)/examples'
+	@echo 'Installed below $(DESTDIR)$(PREFIX). Begin with teco-tutor, or with man teco.'
 
 # A folder may have files of others: so each file goes by its name, and a folder only if it is empty then.
 ## make uninstall     removes the files that make install put there, and then its folders for docs, if nothing else is in them;
