@@ -20,7 +20,7 @@ pub(crate) const ROWS: &str = "
     - teco --check -p Z\"GIa$^` none =>
     - teco --check -b bytes none => => bytes:1:3: UTC: \"G has no '\n => => => 2 => bytes == YZ\"GEX\x1b\x1b
     - // A file of bytes that is taken for a source. It is one of two, and the line is that of its own.
-    - teco --check -f lib.teco -f macro none => => macro:1:7: hint: a source has $ for this ESC; teco -b takes the bytes of a file as they are\n => => => => lib.teco == @^UA/0L Ix^=$ /$$\n!!puts in x and a caret\n ++ macro == YI5 $ a\x1b\x1bEX\x1b\x1b
+    - teco --check -f lib.teco -f macro none => => macro:1:8: hint: a source has $ for this ESC; teco -b takes the bytes of a file as they are\n => => => => lib.teco == @^UA/0L Ix^=$ /$$\n!!puts in x and a caret\n ++ macro == YI5 $ a\x1b\x1bEX\x1b\x1b
     - teco --check -b macro none => => => => => => macro == YI5 $ a\x1b\x1bEX\x1b\x1b
     - // A hint is no fault.
     - teco --check -e Y$$EX$ none => => --execute:1:7: hint: this is not run: it ends with one ESC, and wants two\n

@@ -42,11 +42,11 @@ pub(crate) const ROWS: &str = "
     - teco -e YHKEX$$M?$$ in => => => --execute:1:8: IQN: after M comes a register, A to Z or 0 to 9\n => => 3 => in == hi\n
     - teco -i -e Y<FSi$o;>EX$$ in none => => => --execute:1:2: UTC: < has no >\n => => 3 => in == hi\n
     - teco -f faulty -e EX$$ -o out in => => => faulty:2:3: IQN: after M comes a register, A to Z or 0 to 9\n => => 3 => in == hi\n ++ faulty == Y\n  M? !!no register\n
-    - teco -f - in => YM?\x1b\x1bEX\x1b\x1b => => -:1:2: IQN: after M comes a register, A to Z or 0 to 9\n => => 3 => in == hi\n
+    - teco -f - in => YM?\x1b\x1bEX\x1b\x1b => => -:1:4: hint: a source has $ for this ESC; teco -b takes the bytes of a file as they are\n-:1:2: IQN: after M comes a register, A to Z or 0 to 9\n => => 3 => in == hi\n
     - // A conditional of which a shell took the end, in a word and in one for every page; and a file of bytes that is taken for a source.
     - teco -i -e YZ\"GIa$EX$$ in => => => --execute:1:3: UTC: \"G has no '; between single quotes of a shell ' is spelled ^`\n => => 3 => in == hi\n
-    - teco -i -p <.-Z;L-A-10\"ERI;$L> in => => => --pages:1:19: BNI: > closes \"E at 1:11; between single quotes of a shell ' is spelled ^`\n => => 3 => in == hi\n
-    - teco -i -f macro in => => => macro:1:5: hint: a source has $ for this ESC; teco -b takes the bytes of a file as they are\nmacro:1:2: UTC: \"E has no '\n => => 3 => in == hi\n ++ macro == 0\"EI'\x1bEX\x1b\x1b
+    - teco -i -p <.-Z;L-A-10\"ERI;$L> in => => => --pages:1:19: BNI: > closes \"E at 1:12; between single quotes of a shell ' is spelled ^`\n => => 3 => in == hi\n
+    - teco -i -f macro in => => => macro:1:6: hint: a source has $ for this ESC; teco -b takes the bytes of a file as they are\nmacro:1:2: UTC: \"E has no '\n => => 3 => in == hi\n ++ macro == 0\"EI'\x1bEX\x1b\x1b
     - // A jump to no tag, and a fault in a text that is put where code is.
     - teco -i -e YOa$EX$$ in => => => --execute:1:2: TAG: no tag !a! is in this list or one around it\n => => 3 => in == hi\n
     - teco -i -e @^UA/YM?/MAEX$$ in => => => --execute:1:7: IQN: after M comes a register, A to Z or 0 to 9\n => => 3 => in == hi\n
