@@ -4,7 +4,7 @@
 use std::cell::Cell;
 use std::process::ExitCode;
 use teco_cli::words_given;
-use teco_debugger::{DebuggerLine, program};
+use teco_debugger::{DebuggerLine, is_typed, program};
 use teco_fs::{FileDisk, Piped, UntilLeft, hold_standard_streams};
 use teco_io::WriterTerminal;
 
@@ -16,6 +16,7 @@ fn main(rt: HostRuntime) -> ExitCode {
     program(
         rt.alloc(),
         words_given::<DebuggerLine, HostRuntime>(&rt),
+        is_typed(&rt),
         &mut rt.reader(),
         &mut WriterTerminal::new(Piped::new(rt.stdout(), &has_left)),
         &mut WriterTerminal::new(UntilLeft::new(rt.stderr(), &has_left)),

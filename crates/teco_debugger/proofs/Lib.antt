@@ -13,3 +13,4 @@ pub mod Changes
 pub mod Returning
 pub mod WalkEnds
 pub mod Digits
+pub mod Watched

@@ -1,12 +1,12 @@
 -- Steps on the way that are looked at.
 use Rattle.std.proofs.Common.{◌≡◌, ℕ, ◌+◌, ◌-◌, ◌<◌, ◌≤◌, false, sym, subst, arith, inl, inr, add-one}
 use Rattle.std.proofs.lemmas.Bool.{cases_lt}
-use Rattle.teco_messages.specs.declared.spot.Spot.{Spot}
 use Rattle.teco_debugger.specs.Walk.{KeptWalk, meant}
 use Rattle.teco_debugger.specs.Moving.{HasNoStop, PassesBetween, StopsOr, work_below}
+use Rattle.teco_debugger.specs.declared.stops.Stop.{Stop}
 use Rattle.teco_debugger.specs.declared.stops.TheConstants.{MOST_WORK}
 
-module _ (walk : KeptWalk) (stop : Spot) (from : ℕ) where
+module _ (walk : KeptWalk) (stop : Stop) (from : ℕ) where
   -- none is passed yet
   pub passes_none : PassesBetween walk stop from from
   passes_none n above below = absurd (omega (arith, above, below))

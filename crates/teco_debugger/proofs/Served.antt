@@ -1,8 +1,8 @@
 -- Lines that are served.
-use Rattle.std.proofs.Common.{◌≡◌, ◌∙◌, ◌++◌, List, [], ◌∷◌, ℕ, Option, Some, None, refl, ap, subst}
+use Rattle.std.proofs.Common.{◌≡◌, ◌∙◌, ◌++◌, List, [], ℕ, zero, suc, Bool, Option, Some, None, refl, ap, subst}
 use Rattle.std.specs.Prelude.{IfSome}
 use Rattle.std.specs.Io.BufRead.{DropsThrough, take_through}
-use Rattle.teco_debugger.specs.Serving.{AnswersLines, Obeys, Stage, TakesLine}
+use Rattle.teco_debugger.specs.Serving.{AnswersLines, AsksAndServes, Stage, TakesLine}
 use Prim.Native.Char.{code}
 
 -- a line that was read into an empty buffer
@@ -12,7 +12,6 @@ takes_line None after old line none is rest = record { line_is = tt; rest = rest
 takes_line (Some xs) after old line none is rest = record { line_is = is ∙ ap (λ l. l ++ take_through (code "\n") xs) none; rest = rest }
 
 -- one line more was answered
-pub answered_more : (lines : List (List ℕ)) (a b c : Stage) (line : List ℕ) → AnswersLines lines a b → TakesLine line b.coming c.coming
-    → Obeys line None b.debugger c.debugger b.screen c.screen → AnswersLines (lines ++ line ∷ []) a c
-answered_more [] a b c line same takes obeys = subst (λ x. AnswersLines (line ∷ []) x c) same (c, takes, obeys, refl)
-answered_more (x ∷ xs) a b c line h takes obeys = (h.0, h.1, h.2, answered_more xs h.0 b c line h.3 takes obeys)
+pub answered_more : (prompts : Bool) (n : ℕ) (a b c : Stage) → AnswersLines prompts n a b → AsksAndServes prompts None b c → AnswersLines prompts (suc n) a c
+answered_more prompts zero a b c same more = (c, subst (λ x. AsksAndServes prompts None x c) same more, refl)
+answered_more prompts (suc n) a b c h more = (h.0, h.1, answered_more prompts n h.0 b c h.2 more)

@@ -4,6 +4,7 @@ use Rattle.std.specs.List.{prefix_len, suffix_len}
 use Rattle.std.specs.Fmt.{decimal}
 use Prim.Native.Char.{code}
 use lib.Pointwise.{pointwise}
+use Rattle.teco_core.specs.Ascii.{upper}
 use Rattle.teco_core.specs.Register.{register_of}
 use Rattle.teco_messages.specs.declared.spot.Spot.{Spot}
 use Rattle.teco_messages.specs.Spelling.{spelled}
@@ -14,20 +15,27 @@ use Rattle.teco_debugger.specs.Help.{help_shown}
 use Rattle.teco_debugger.specs.Listing.{lines_there_shown, registers_shown, state_shown, whole_register}
 use Rattle.teco_debugger.specs.Moving.{Arrives, HasNoStop, IsNextStop, IsSeen, MovesTo, SameRun}
 use Rattle.teco_debugger.specs.Showing.{step_shown, where_shown}
+use Rattle.teco_debugger.specs.Watching.{IsNearestOther}
 use Rattle.teco_debugger.specs.declared.command.DebuggerCommand.{DebuggerCommand}
 use Rattle.teco_debugger.specs.declared.command.DebuggerCommand.TheVariants as command
 use Rattle.teco_debugger.specs.declared.command.CommandFault.{CommandFault}
-use Rattle.teco_debugger.specs.declared.command.CommandFault.TheVariants.{NoCommand, NoNumber, NoRegister, NoPlace, TooMuch}
+use Rattle.teco_debugger.specs.declared.command.CommandFault.TheVariants.{NoCommand, NoNumber, NoRegister, NoPlace, NoWatch, TooMuch}
 use Rattle.teco_debugger.specs.declared.part.Part.{Part}
 use Rattle.teco_debugger.specs.declared.part.Part.TheVariants as part
+use Rattle.teco_debugger.specs.declared.stops.Stop.{Stop}
+use Rattle.teco_debugger.specs.declared.stops.Stop.TheVariants as stop
 use Rattle.teco_debugger.specs.declared.verb.Takes.{Takes}
-use Rattle.teco_debugger.specs.declared.verb.Takes.TheVariants.{Nothing, Number, NumberOr, Register, Part as ThePart, Spot as TheSpot}
+use Rattle.teco_debugger.specs.declared.verb.Takes.TheVariants.{Nothing, Number, NumberOr, Register, Part as ThePart, Spot as TheSpot, Watch as TheWatch}
 use Rattle.teco_debugger.specs.declared.verb.Counted.{Counted}
 use Rattle.teco_debugger.specs.declared.verb.Counted.TheVariants as counted
 use Rattle.teco_debugger.specs.declared.verb.Plain.{Plain}
 use Rattle.teco_debugger.specs.declared.verb.Plain.TheVariants as plain
 use Rattle.teco_debugger.specs.declared.verb.VerbRow.{VerbRow}
 use Rattle.teco_debugger.specs.declared.walk.Seen.{Seen}
+use Rattle.teco_debugger.specs.declared.watching.Watch.{Watch}
+use Rattle.teco_debugger.specs.declared.watching.Watch.TheVariants as watch
+use Rattle.teco_debugger.specs.declared.watching.Way.{Way}
+use Rattle.teco_debugger.specs.declared.watching.Way.TheVariants.{On, Back}
 use Rattle.teco_debugger.specs.declared.debugger.Debugger.{Debugger}
 use Rattle.teco_debugger.specs.declared.debugger.View.{View}
 use Rattle.teco_debugger.specs.declared.debugger.View.TheVariants.{Step, Where, Typed}
@@ -45,7 +53,8 @@ named word letter takes = record { word = word; letter = letter; takes = takes }
 abbrev pub verb_by : VerbRow → Verb
 verb_by row = named row.word.now row.letter.now row.takes
 
--- the commands; a letter is the first of its word that no word above it has taken
+-- the commands; a letter is the first of its word that no word above it has taken. All of those of `watch` are, so it has the d of
+-- `differs`.
 abbrev pub verbs : List Verb
 verbs = named (codes "next") (codes "n") (NumberOr counted.Next 1)
     ∷ named (codes "back") (codes "b") (NumberOr counted.Back 1)
@@ -62,6 +71,8 @@ verbs = named (codes "next") (codes "n") (NumberOr counted.Next 1)
     ∷ named (codes "continue") (codes "c") (Nothing plain.Continue)
     ∷ named (codes "typed") (codes "y") (Nothing plain.Typed)
     ∷ named (codes "undo") (codes "u") (NumberOr counted.Undo 1)
+    ∷ named (codes "until") (codes "l") (Number counted.Until)
+    ∷ named (codes "watch") (codes "d") TheWatch
     ∷ named (codes "help") (codes "h") (Nothing plain.Help)
     ∷ named (codes "quit") (codes "q") (Nothing plain.Quit)
     ∷ []
@@ -134,6 +145,36 @@ spot_in bytes =
     then spot_from (number_in (take (colon_in bytes) bytes)) (number_in (drop (colon_in bytes + 1) bytes))
     else Err NoPlace
 
+-- the register of this name, to be watched
+abbrev pub watched_register : ℕ → Result Watch CommandFault
+watched_register b = elim (register_of b) [ Some q ↦ Ok (watch.Register q) | None ↦ Err NoWatch ]
+
+-- what is watched that one byte names: the pointer, the length of the buffer, or a register
+abbrev pub watched_by : ℕ → Result Watch CommandFault
+watched_by b =
+    if b == code "." then Ok watch.Pointer else (if upper b == code "Z" then Ok watch.Length else watched_register b)
+
+-- Any register can have a Q before its name, and register Z has to.
+abbrev pub watched_in : List ℕ → Result Watch CommandFault
+watched_in [] = Err NoWatch
+watched_in (b ∷ []) = watched_by b
+watched_in (q ∷ b ∷ []) = if upper q == code "Q" then watched_register b else Err NoWatch
+watched_in (q ∷ b ∷ c ∷ bytes) = Err NoWatch
+
+-- on, or back if that word comes
+abbrev pub way_in : List ℕ → Result Way CommandFault
+way_in [] = Ok On
+way_in (b ∷ bytes) = if pointwise nat_eq (b ∷ bytes) (codes "back") then Ok Back else Err NoWatch
+
+abbrev pub watch_from : Result Watch CommandFault → Result Way CommandFault → Result DebuggerCommand CommandFault
+watch_from (Ok watched) (Ok way) = Ok (command.Watch watched way)
+watch_from (Ok watched) (Err fault) = Err fault
+watch_from (Err fault) way = Err fault
+
+-- what is watched, and then which way to go
+abbrev pub watch_in : List ℕ → Result DebuggerCommand CommandFault
+watch_in bytes = watch_from (watched_in (word_in bytes)) (way_in (after_word bytes))
+
 abbrev pub find : Part → DebuggerCommand
 find part = command.Find part
 
@@ -148,6 +189,7 @@ command_in (NumberOr counted otherwise) bytes = given (command.Counted counted) 
 command_in Register bytes = given command.Register (register_in bytes)
 command_in ThePart bytes = given find (part_in bytes)
 command_in TheSpot bytes = given break_at (spot_in bytes)
+command_in TheWatch bytes = watch_in bytes
 
 abbrev pub command_by : Option Takes → List ℕ → Result DebuggerCommand CommandFault
 command_by (Some takes) bytes = command_in takes bytes
@@ -165,6 +207,7 @@ words_of NoCommand = codes "no such command; help lists them"
 words_of NoNumber = codes "a number is wanted"
 words_of NoRegister = codes "a register is wanted, A to Z or 0 to 9"
 words_of NoPlace = codes "a place is wanted, as LINE:COLUMN"
+words_of NoWatch = codes "a register, . or Z is wanted, and then back or nothing"
 words_of TooMuch = codes "nothing is wanted after this command"
 
 -- a line that ends by LF
@@ -200,17 +243,31 @@ abbrev pub GoesOrSays : Option ℕ → List ℕ → Debugger → Debugger → Li
 GoesOrSays (Some n) words old new shown = MovesTo n old new shown
 GoesOrSays None words old new shown = OnlyShows (answer_line words) old new shown
 
--- It goes on to the next step at the place to stop at, if one is noted and such a step comes.
-abbrev pub GoesOnToStop : Option Spot → Debugger → Debugger → List ℕ → Type 0
-GoesOnToStop None old new shown = OnlyShows (answer_line (codes "no place to stop at is noted")) old new shown
-GoesOnToStop (Some stop) old new shown =
+-- It goes on to the next step that is there, if such a step comes.
+abbrev pub GoesOnTo : Stop → Debugger → Debugger → List ℕ → Type 0
+GoesOnTo stop old new shown =
     ((n : ℕ) × IsNextStop old.walk stop (old.walk.steps + 1) n × MovesTo n old new shown)
     ⊎ (HasNoStop old.walk stop (old.walk.steps + 1) old.limit
     × OnlyShows (answer_line (codes "no step at that place comes, or it is too far")) old new shown)
 
+-- It goes on to the next step at the place to stop at, if one is noted and such a step comes.
+abbrev pub GoesOnToStop : Option Spot → Debugger → Debugger → List ℕ → Type 0
+GoesOnToStop None old new shown = OnlyShows (answer_line (codes "no place to stop at is noted")) old new shown
+GoesOnToStop (Some spot) old new shown = GoesOnTo (stop.At spot) old new shown
+
 -- It goes back to before the last change of a part, if one was made.
 abbrev pub FindsChange : Option ℕ → Debugger → Debugger → List ℕ → Type 0
 FindsChange to old new shown = GoesOrSays to (codes "no step before this one changed it") old new shown
+
+-- what is said if what is watched is as here at all those steps
+abbrev pub words_without : Way → List ℕ
+words_without On = codes "no step after this one changes it"
+words_without Back = codes "no step before this one changed it"
+
+-- It goes to the nearest step at which what is watched differs from here, if there is one.
+abbrev pub Watches : Way → Watch → Debugger → Debugger → List ℕ → Type 0
+Watches way watch old new shown =
+    (to : Option ℕ) × IsNearestOther way watch old.walk old.limit to × GoesOrSays to (words_without way) old new shown
 
 -- Some moves are taken back: it goes to where the walk stood before the first of them, if there was a move.
 abbrev pub TakesBack : ℕ → Option ℕ → Debugger → Debugger → List ℕ → Type 0
@@ -245,6 +302,7 @@ AnswersCounted counted.Goto n old new shown = MovesTo (min n old.limit) old new 
 AnswersCounted counted.Text n old new shown = OnlyShows (lines_there_shown (state_there old.walk) n) old new shown
 AnswersCounted counted.Undo n old new shown = TakesBack (moves_left n old.moves.items)
     (slice_get old.moves.items (moves_left n old.moves.items)) old new shown
+AnswersCounted counted.Until n old new shown = GoesOnTo (stop.Line n) old new shown
 
 -- what a command does, and what is shown of it
 abbrev pub AnswersCommand : DebuggerCommand → Debugger → Debugger → List ℕ → Type 0
@@ -253,6 +311,7 @@ AnswersCommand (command.Counted counted n) old new shown = AnswersCounted counte
 AnswersCommand (command.Register q) old new shown =
     OnlyShows (whole_register (state_there old.walk).registers q) old new shown
 AnswersCommand (command.Find part) old new shown = FindsChange (last_change part old.walk.changes) old new shown
+AnswersCommand (command.Watch watched way) old new shown = Watches way watched old new shown
 -- the place is noted, and nothing is shown
 AnswersCommand (command.Break spot) old new shown = (new ≡ record old { stop = Some spot }) × (shown ≡ [])
 

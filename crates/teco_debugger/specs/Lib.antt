@@ -10,5 +10,6 @@ pub mod Serving
 pub mod Showing
 pub mod Spelling
 pub mod Walk
+pub mod Watching
 pub mod Finding
 pub mod Number

@@ -9,6 +9,8 @@ use Rattle.teco_debugger.specs.Walk.{KeptWalk, SameString, meant}
 use Rattle.teco_debugger.specs.declared.walk.Seen.{Seen}
 use Rattle.teco_debugger.specs.Showing.{step_shown}
 use Rattle.teco_debugger.specs.declared.debugger.Debugger.{Debugger}
+use Rattle.teco_debugger.specs.declared.stops.Stop.{Stop}
+use Rattle.teco_debugger.specs.declared.stops.Stop.TheVariants.{At, Line}
 use Rattle.teco_debugger.specs.declared.stops.TheConstants.{MOST_WORK}
 
 -- what a run of the string under a limit of n steps shows: how it ended, what it typed, and where it last stood
@@ -45,29 +47,31 @@ pub record MovesTo (n : ℕ) (old new : Debugger) (shown : List ℕ) : Type 0 wh
   pub arrives : Arrives n old new shown
   pub kept : new.moves.items ≡ old.moves.items ++ old.walk.steps ∷ []
 
-abbrev pub is_spot : Spot → Spot → Bool
-is_spot a b = a.line == b.line && a.column == b.column
+-- a place to stop at is there: at this line and column, or anywhere in this line
+abbrev pub is_there : Stop → Spot → Bool
+is_there (At spot) here = here.line == spot.line && here.column == spot.column
+is_there (Line line) here = here.line == line
 
--- a place of a run is at this line and column of the string, with no call open
-abbrev pub is_at : List ℕ → Spot → Place → Bool
+-- a place of a run is there in the string, with no call open
+abbrev pub is_at : List ℕ → Stop → Place → Bool
 is_at text stop place =
-    length place.calls.items == 0 && (nat_le place.at (length text) && is_spot (spot_of text place.at) stop)
+    length place.calls.items == 0 && (nat_le place.at (length text) && is_there stop (spot_of text place.at))
 
 -- a run that was seen stands there after n steps
-abbrev pub is_stop : List ℕ → Spot → ℕ → Option Place → Bool
+abbrev pub is_stop : List ℕ → Stop → ℕ → Option Place → Bool
 is_stop text stop n None = false
 is_stop text stop n (Some place) = place.steps == n && is_at text stop place
 
 -- The run of the string under a limit of n steps stands at the place to stop at, or not.
-abbrev pub StopsOr : KeptWalk → Spot → ℕ → Bool → Type 0
+abbrev pub StopsOr : KeptWalk → Stop → ℕ → Bool → Type 0
 StopsOr walk stop n so = (seen : Seen) × IsSeen walk n seen × (is_stop walk.text stop n seen.place ≡ so)
 
 -- No step from the one to the other, which is not among them, is at the place to stop at.
-abbrev pub PassesBetween : KeptWalk → Spot → ℕ → ℕ → Type 0
+abbrev pub PassesBetween : KeptWalk → Stop → ℕ → ℕ → Type 0
 PassesBetween walk stop from to = (n : ℕ) → from ≤ n → n < to → StopsOr walk stop n false
 
 -- The step is the first one from there on that is at the place to stop at.
-pub record IsNextStop (walk : KeptWalk) (stop : Spot) (from n : ℕ) : Type 0 where
+pub record IsNextStop (walk : KeptWalk) (stop : Stop) (from n : ℕ) : Type 0 where
   pub after : from ≤ n
   pub here : StopsOr walk stop n true
   pub passed : PassesBetween walk stop from n
@@ -79,7 +83,7 @@ work_below (suc n) = work_below n + n
 
 -- No step up to some other one is at the place to stop at, and the way ends there: at the limit, behind the last step
 -- of the string, or where it takes too much work to look on.
-pub record HasNoStop (walk : KeptWalk) (stop : Spot) (from limit : ℕ) : Type 0 where
+pub record HasNoStop (walk : KeptWalk) (stop : Stop) (from limit : ℕ) : Type 0 where
   pub to : ℕ
   pub passed : PassesBetween walk stop from to
   pub ends : (limit ≤ to) ⊎ (((meant walk.input walk.text to).steps < to)

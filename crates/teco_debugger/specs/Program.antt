@@ -1,5 +1,5 @@
 -- A run of the program, from its words to its status.
-use Rattle.std.specs.Prelude.{◌≡◌, ◌⊎◌, ℕ, List, Option, codes}
+use Rattle.std.specs.Prelude.{◌≡◌, ◌⊎◌, ℕ, Bool, List, Option, codes}
 use Rattle.teco_cli.specs.Words.{IsLineIn, Words}
 use Rattle.teco_fs.specs.Console.{console}
 use Rattle.teco_fs.specs.Refusing.{Refuses}
@@ -31,33 +31,33 @@ pub record HasNoFiles {D I S T : Type 0} (view : RetraceView D I S T) (line : De
   pub term : new.term ≡ old.term
 
 -- The files are read, and the commands are served over them.
-pub record ServesFiles {D I S T : Type 0} (view : RetraceView D I S T) (line : DebuggerLine) (old new : Host D S T)
+pub record ServesFiles {D I S T : Type 0} (view : RetraceView D I S T) (line : DebuggerLine) (prompts : Bool) (old new : Host D S T)
     (ending : Ending) : Type 0 where
   pub first : Debugger
   pub last : Debugger
   pub begins : BeginsOver (view.disk old.disk).files line first
-  pub serves : ServesLines (stage (view.coming old.stream) first (view.screen old.term))
+  pub serves : ServesLines prompts (stage (view.coming old.stream) first (view.screen old.term))
       (stage (view.coming new.stream) last (view.screen new.term)) ending
 
 -- A run over a line, by which no file changes.
-pub record RetracesLine {D I S T : Type 0} (view : RetraceView D I S T) (line : DebuggerLine) (old new : Host D S T)
+pub record RetracesLine {D I S T : Type 0} (view : RetraceView D I S T) (line : DebuggerLine) (prompts : Bool) (old new : Host D S T)
     (ending : Ending) : Type 0 where
   pub keeps : KeepsDisk (view.disk old.disk) (view.disk new.disk)
-  pub ends : HasNoFiles view line old new ending ⊎ ServesFiles view line old new ending
+  pub ends : HasNoFiles view line old new ending ⊎ ServesFiles view line prompts old new ending
 
 -- The words say a line, and the run is that over it. How it ends is told on standard error.
 pub record RetracesWords {D I S T E : Type 0} (view : RetraceView D I S T) (errors : E → Screen)
-    (words : Words) (old new : Host D S T) (told telling : E) (status : ℕ) : Type 0 where
+    (words : Words) (prompts : Bool) (old new : Host D S T) (told telling : E) (status : ℕ) : Type 0 where
   pub line : DebuggerLine
   pub line_is : IsLineIn WordsSay words line
   pub ending : Ending
-  pub run : RetracesLine view line old new ending
+  pub run : RetracesLine view line prompts old new ending
   pub end : TellsEnding line ending (errors told) (errors telling) status
 
 -- The words say no line, and nothing is read or shown but what is told of that; or they say one.
-abbrev pub RetracesBy : {D I S T E : Type 0} → RetraceView D I S T → (E → Screen) → Words → Host D S T → Host D S T → E → E → ℕ
+abbrev pub RetracesBy : {D I S T E : Type 0} → RetraceView D I S T → (E → Screen) → Words → Bool → Host D S T → Host D S T → E → E → ℕ
     → Type 0
-RetracesBy view errors words old new told telling status =
+RetracesBy view errors words prompts old new told telling status =
     Refuses (console view.screen old.term new.term errors told telling) (told_line (codes "no memory")) WordsSayNone words
     ((new.stream ≡ old.stream) × (new.disk ≡ old.disk)) status
-    ⊎ RetracesWords view errors words old new told telling status
+    ⊎ RetracesWords view errors words prompts old new told telling status

@@ -1,5 +1,5 @@
 -- Serving commands: each line is answered, until one asks to leave or none is left.
-use Rattle.std.specs.Prelude.{◌≡◌, ◌⊎◌, ℕ, List, [], ◌∷◌, true, false, Option, Some, None, IfSome}
+use Rattle.std.specs.Prelude.{◌≡◌, ◌⊎◌, ℕ, zero, suc, List, codes, Bool, true, false, Option, Some, None, IfSome}
 use Rattle.std.specs.Io.BufRead.{DropsThrough, take_through}
 use Rattle.std.specs.Io.KnownBytes.{IsAtEnd}
 use Rattle.teco_io.specs.Terminal.{IsFrontOf, Screen, Shows}
@@ -53,15 +53,31 @@ abbrev pub ServesNext : Option Ending → Stage → Stage → Type 0
 ServesNext ending a b = (line : List ℕ) × TakesLine line a.coming b.coming
     × Obeys line ending a.debugger b.debugger a.screen b.screen
 
--- Lines were answered, one after another.
-abbrev pub AnswersLines : List (List ℕ) → Stage → Stage → Type 0
-AnswersLines [] a c = c ≡ a
-AnswersLines (line ∷ lines) a c = (b : Stage) × TakesLine line a.coming b.coming
-    × Obeys line None a.debugger b.debugger a.screen b.screen × AnswersLines lines b c
+-- A star and a blank are shown where a line is awaited, if lines are typed at a terminal.
+abbrev pub Asks : Bool → Screen → Screen → Type 0
+Asks true before after = Shows before after (codes "* ") false
+Asks false before after = after ≡ before
 
--- After the lines that were answered the serving ends so.
-pub record ServesLines (first last : Stage) (ending : Ending) : Type 0 where
-  pub lines : List (List ℕ)
+-- A beginning of them is shown, and then the terminal failed.
+abbrev pub FailsToAsk : Screen → Screen → Type 0
+FailsToAsk before after = (front : List ℕ) × IsFrontOf front (codes "* ") × Shows before after front true
+
+-- A line is asked for, and then the next one is read and obeyed, or none is read.
+abbrev pub AsksAndServes : Bool → Option Ending → Stage → Stage → Type 0
+AsksAndServes prompts ending a b =
+    ((asked : Screen) × Asks prompts a.screen asked
+    × (ServesNext ending (record a { screen = asked }) b ⊎ EndsUnread ending (record a { screen = asked }) b))
+    ⊎ ((ending ≡ Some ShowFault) × (b.debugger ≡ a.debugger) × FailsToAsk a.screen b.screen)
+
+-- Lines were asked for and answered, one after another.
+abbrev pub AnswersLines : Bool → ℕ → Stage → Stage → Type 0
+AnswersLines prompts zero a c = c ≡ a
+AnswersLines prompts (suc n) a c = (b : Stage) × AsksAndServes prompts None a b × AnswersLines prompts n b c
+
+-- After some lines that were answered the serving ends so.
+pub record ServesLines (prompts : Bool) (first last : Stage) (ending : Ending) : Type 0 where
+  pub lines : ℕ
   pub after : Stage
-  pub answered : AnswersLines lines first after
-  pub ends : ServesNext (Some ending) after last ⊎ EndsUnread (Some ending) after last
+  pub answered : AnswersLines prompts lines first after
+  -- or it ends without asking for a line more, but no run comes to so many
+  pub ends : AsksAndServes prompts (Some ending) after last ⊎ ((ending ≡ ReadFault) × (last ≡ after))

@@ -1,11 +1,12 @@
 //! The commands, a line each.
 ghost use Rattle.std.specs.List.{prefix_len, suffix_len};
 ghost use Rattle.std.specs.Prelude.{◌≡◌, ℕ, ◌≤◌, length, not, Result, Some};
-ghost use Rattle.teco_debugger.specs.Commands.{break_at, colon_in, command_in, command_of, find, given, is_blank, part_in, register_in, spot_in, without_blanks_after, without_blanks_before, words_of};
+ghost use Rattle.teco_debugger.specs.Commands.{break_at, colon_in, command_in, command_of, find, given, is_blank, part_in, register_in, spot_in, watch_in, watched_by, watched_in, watched_register, way_in, without_blanks_after, without_blanks_before, words_of};
 
 use crate::number::number_in;
 use crate::part::Part;
 use crate::verb::{Counted, Plain, Takes, takes_of};
+use crate::watching::{Watch, Way};
 use std::error::Error;
 use std::fmt;
 use teco_core::Reg;
@@ -21,6 +22,8 @@ pub enum DebuggerCommand {
     Find(Part),
     /// The place to stop at.
     Break(Spot),
+    /// To the nearest step, this way, where what is watched differs.
+    Watch(Watch, Way),
 }
 
 /// Why a line is no command.
@@ -30,6 +33,7 @@ pub enum CommandFault {
     NoNumber,
     NoRegister,
     NoPlace,
+    NoWatch,
     TooMuch,
 }
 
@@ -43,6 +47,7 @@ impl CommandFault {
             CommandFault::NoNumber => "a number is wanted",
             CommandFault::NoRegister => "a register is wanted, A to Z or 0 to 9",
             CommandFault::NoPlace => "a place is wanted, as LINE:COLUMN",
+            CommandFault::NoWatch => "a register, . or Z is wanted, and then back or nothing",
             CommandFault::TooMuch => "nothing is wanted after this command",
         }
     }
@@ -138,6 +143,63 @@ fn break_in(bytes: &[u8]) -> Result<DebuggerCommand, CommandFault>
     }
 }
 
+/// The register of this name, to be watched.
+fn watched_register(byte: u8) -> Result<Watch, CommandFault>
+    ensures { result ≡ watched_register byte }
+{
+    match Reg::of(byte) {
+        Some(q) => Ok(Watch::Register(q)),
+        None => Err(CommandFault::NoWatch),
+    }
+}
+
+/// What is watched that one byte names.
+fn watched_by(byte: u8) -> Result<Watch, CommandFault>
+    ensures { result ≡ watched_by byte }
+{
+    if byte == b'.' {
+        return Ok(Watch::Pointer);
+    }
+    if byte.to_ascii_uppercase() == b'Z' {
+        return Ok(Watch::Length);
+    }
+    watched_register(byte)
+}
+
+/// What is watched.
+fn watched_in(bytes: &[u8]) -> Result<Watch, CommandFault>
+    ensures { result ≡ watched_in bytes.now }
+{
+    match bytes {
+        [byte] => watched_by(*byte),
+        [q, byte] if q.to_ascii_uppercase() == b'Q' => watched_register(*byte),
+        _ => Err(CommandFault::NoWatch),
+    }
+}
+
+/// Which way to go.
+fn way_in(bytes: &[u8]) -> Result<Way, CommandFault>
+    ensures { result ≡ way_in bytes.now }
+{
+    if bytes.is_empty() {
+        return Ok(Way::On);
+    }
+    if bytes == b"back".as_slice() {
+        return Ok(Way::Back);
+    }
+    Err(CommandFault::NoWatch)
+}
+
+/// The command that watches.
+fn watch_in(bytes: &[u8]) -> Result<DebuggerCommand, CommandFault>
+    ensures { result ≡ watch_in bytes.now }
+{
+    let end = word_end(bytes);
+    let watched = watched_in(&bytes[..end])?;
+    let way = way_in(after_blanks(&bytes[end..]))?;
+    Ok(DebuggerCommand::Watch(watched, way))
+}
+
 /// The command that takes this, with these bytes after its word.
 fn command_in(takes: Takes, bytes: &[u8]) -> Result<DebuggerCommand, CommandFault>
     ensures { result ≡ command_in takes bytes.now }
@@ -154,6 +216,7 @@ fn command_in(takes: Takes, bytes: &[u8]) -> Result<DebuggerCommand, CommandFaul
         Takes::Register => Ok(DebuggerCommand::Register(register_in(bytes)?)),
         Takes::Part => find_in(bytes),
         Takes::Spot => break_in(bytes),
+        Takes::Watch => watch_in(bytes),
     }
 }
 

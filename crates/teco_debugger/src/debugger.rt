@@ -1,7 +1,7 @@
 //! The commands, done by a walk.
 ghost use Rattle.std.specs.Prelude.{◌≡◌, ◌+◌, ◌++◌, [], IfNone, IfOk, IfSome, None, Ok, OnOk, slice_get};
 ghost use Rattle.std.specs.String.{string_bytes};
-ghost use Rattle.teco_debugger.specs.Commands.{IsAnswerTo, AnswersCommand, AnswersCounted, AnswersPlain, GoesOnToStop, GoesOrSays, ShowsSeen, TakesBack, answer_line, command_of, words_of};
+ghost use Rattle.teco_debugger.specs.Commands.{IsAnswerTo, AnswersCommand, AnswersCounted, AnswersPlain, GoesOnTo, GoesOnToStop, GoesOrSays, ShowsSeen, TakesBack, Watches, answer_line, command_of, words_of, words_without};
 ghost use Rattle.teco_debugger.specs.Moving.{Arrives, HasNoStop, IsNextStop, MovesTo, SameRun};
 ghost use Rattle.teco_messages.specs.Spelling.{spelled};
 
@@ -9,8 +9,9 @@ use crate::help::{show_help, verb_rows};
 use crate::listing::{show_register, show_registers, show_state, show_text};
 use crate::moving::{ahead, behind};
 use crate::showing::{show_step, show_where};
-use crate::stops::next_stop;
-use crate::{Counted, DebuggerCommand, Plain, Walk};
+use crate::stops::{Stop, next_stop};
+use crate::watching::nearest_other;
+use crate::{Counted, DebuggerCommand, Plain, Walk, Watch, Way};
 use std::alloc::Global;
 use teco_core::NoMemory;
 use teco_messages::{Spot, spell};
@@ -40,6 +41,16 @@ fn show_typed(out: &mut String, typed: &[u8]) -> Result<(), NoMemory>
 {
     spell(out, typed)?;
     out.push_str("\n")
+}
+
+/// What is said if what is watched is as here at all those steps.
+fn words_without(way: Way) -> &'static str
+    ensures { result.now ≡ words_without way }
+{
+    match way {
+        Way::On => "no step after this one changes it",
+        Way::Back => "no step before this one changed it",
+    }
 }
 
 /// What is shown of where a walk stands.
@@ -137,7 +148,7 @@ impl Debugger {
     }
 
     /// The next step at the place to stop at.
-    fn next_stop(&self, stop: Spot) -> Result<Option<u64>, NoMemory>
+    fn next_stop(&self, stop: Stop) -> Result<Option<u64>, NoMemory>
         ensures found { IfOk result (λ found. IfSome found (IsNextStop self.now.walk stop (self.now.walk.steps + 1))) }
         ensures none { IfOk result (λ found. IfNone found
             (HasNoStop self.now.walk stop (self.now.walk.steps + 1) self.now.limit)) }
@@ -149,6 +160,16 @@ impl Debugger {
         next_stop(&self.walk, stop, steps + 1, self.limit)
     }
 
+    /// Goes on to the next step that is there.
+    fn go_on_to(&mut self, out: &mut String, stop: Stop) -> Result<(), NoMemory>
+        requires { string_bytes out.old ≡ [] }
+        ensures continues { OnOk result (GoesOnTo stop self.old self.new (string_bytes out.new)) }
+        ensures same { SameRun self.old self.new }
+    {
+        let to = self.next_stop(stop)?;
+        self.go_or_say(out, to, "no step at that place comes, or it is too far")
+    }
+
     /// Goes on to the next step at the place to stop at.
     fn go_on(&mut self, out: &mut String) -> Result<(), NoMemory>
         requires { string_bytes out.old ≡ [] }
@@ -156,12 +177,19 @@ impl Debugger {
         ensures same { SameRun self.old self.new }
     {
         match self.stop {
-            Some(stop) => {
-                let to = self.next_stop(stop)?;
-                self.go_or_say(out, to, "no step at that place comes, or it is too far")
-            }
+            Some(spot) => self.go_on_to(out, Stop::At(spot)),
             None => show_words(out, "no place to stop at is noted"),
         }
+    }
+
+    /// Goes to the nearest step at which what is watched differs from here.
+    fn watch(&mut self, out: &mut String, watch: Watch, way: Way) -> Result<(), NoMemory>
+        requires { string_bytes out.old ≡ [] }
+        ensures watches { OnOk result (Watches way watch self.old self.new (string_bytes out.new)) }
+        ensures same { SameRun self.old self.new }
+    {
+        let to = nearest_other(&self.walk, &watch, way, self.limit)?;
+        self.go_or_say(out, to, words_without(way))
     }
 
     fn answer_plain(&mut self, out: &mut String, plain: Plain) -> Result<(), NoMemory>
@@ -196,6 +224,7 @@ impl Debugger {
             Counted::Goto => self.go(out, n.min(self.limit)),
             Counted::Text => show_text(out, self.walk.editor(), n),
             Counted::Undo => self.take_back(out, moves.saturating_sub(n as usize)),
+            Counted::Until => self.go_on_to(out, Stop::Line(n)),
         }
     }
 
@@ -213,6 +242,7 @@ impl Debugger {
                 let to = self.walk.last_change(&part);
                 self.go_or_say(out, to, "no step before this one changed it")
             }
+            DebuggerCommand::Watch(watch, way) => self.watch(out, watch, way),
             DebuggerCommand::Break(spot) => {
                 self.stop = Some(spot);
                 Ok(())

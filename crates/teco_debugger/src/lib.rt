@@ -16,12 +16,16 @@ mod running;
 mod serving;
 mod showing;
 mod stops;
+mod typing;
 mod verb;
 mod walk;
+mod watching;
 
 pub(crate) use command::{CommandFault, DebuggerCommand};
 pub use line::DebuggerLine;
 pub(crate) use part::Part;
 pub use running::program;
+pub use typing::is_typed;
 pub(crate) use verb::{Counted, Plain, VERBS, VerbRow};
 pub(crate) use walk::{Seen, Walk};
+pub(crate) use watching::{Watch, Way};

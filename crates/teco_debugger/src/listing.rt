@@ -208,7 +208,7 @@ fn show_line_if(out: &mut String, so: bool, words: &str) -> Result<(), NoMemory>
 }
 
 /// How many bytes two parts have together.
-fn length_of(parts: (&[u8], &[u8])) -> usize
+pub fn length_of(parts: (&[u8], &[u8])) -> usize
     requires { length (parts.0.now ++ parts.1.now) ≤ FILE_LIMIT }
     ensures { result ≡ length (parts.entry.0.now ++ parts.entry.1.now) }
 {

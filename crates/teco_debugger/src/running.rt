@@ -61,12 +61,13 @@ fn input_of<D: Disk>(alloc: Global, line: &DebuggerLine, disk: &mut D) -> Result
 fn retrace<C: BufRead, T: Terminal, D: Disk>(
     alloc: Global,
     line: &DebuggerLine,
+    prompts: bool,
     commands: &mut C,
     term: &mut T,
     disk: &mut D,
 ) -> Result<Ending, Ending>
     ensures serves { let view = retrace_view (disk_seen D.Disk D.Input.Source) C.remaining T.screen in
-        IfOk result (ServesFiles view line.now (host disk.old commands.old term.old) (host disk.new commands.new term.new)) }
+        IfOk result (ServesFiles view line.now prompts (host disk.old commands.old term.old) (host disk.new commands.new term.new)) }
     ensures lacks { let view = retrace_view (disk_seen D.Disk D.Input.Source) C.remaining T.screen in
         IfErr result (HasNoFiles view line.now (host disk.old commands.old term.old) (host disk.new commands.new term.new)) }
     ensures keeps { let seen = disk_seen D.Disk D.Input.Source in
@@ -75,25 +76,27 @@ fn retrace<C: BufRead, T: Terminal, D: Disk>(
     let text = text_of(alloc, line, disk)?;
     let input = input_of(alloc, line, disk)?;
     let mut debugger = Debugger::new(Walk::new(input, text)?, line.limit);
-    Ok(serve(alloc, &mut debugger, commands, term))
+    Ok(serve(alloc, &mut debugger, prompts, commands, term))
 }
 
-/// Goes back and forth over what these words ask for, as the commands say, and gives the status.
+/// Goes back and forth over what these words ask for, as the commands say, and gives the status. If it `prompts`, a star is shown
+/// where a command is awaited.
 pub fn program<C: BufRead, T: Terminal, E: Terminal, D: Disk>(
     alloc: Global,
     words: Result<Vec<String>, LineFault>,
+    prompts: bool,
     commands: &mut C,
     term: &mut T,
     errors: &mut E,
     disk: &mut D,
 ) -> ExitCode
     ensures { let view = retrace_view (disk_seen D.Disk D.Input.Source) C.remaining T.screen in
-        RetracesBy view E.screen words (host disk.old commands.old term.old) (host disk.new commands.new term.new)
+        RetracesBy view E.screen words prompts (host disk.old commands.old term.old) (host disk.new commands.new term.new)
         errors.old errors.new (exit_status result) }
 {
     match line_in::<DebuggerLine>(alloc, words) {
         Ok(line) => {
-            let ending = match retrace(alloc, &line, commands, term, disk) {
+            let ending = match retrace(alloc, &line, prompts, commands, term, disk) {
                 Ok(ending) => ending,
                 Err(ending) => ending,
             };

@@ -1,7 +1,7 @@
 //! The commands, served over a walk.
-ghost use Rattle.std.specs.Prelude.{◌≡◌, ◌⊎◌};
+ghost use Rattle.std.specs.Prelude.{◌≡◌, ◌⊎◌, OnErr, OnOk};
 ghost use Rattle.teco_debugger.specs.Commands.{is_leaving, command_of};
-ghost use Rattle.teco_debugger.specs.Serving.{EndsUnread, Obeys, ServesLines, ServesNext, stage};
+ghost use Rattle.teco_debugger.specs.Serving.{Asks, AsksAndServes, EndsUnread, FailsToAsk, Obeys, ServesLines, ServesNext, stage};
 
 use crate::debugger::Debugger;
 use crate::ending::Ending;
@@ -21,7 +21,18 @@ fn is_leaving(line: &[u8]) -> bool
     )
 }
 
-/// IsAnswerTo a line, unless it asks to leave; says how the serving ends, if it does.
+/// Shows a star, if commands are typed at a terminal.
+fn ask<T: Terminal>(prompts: bool, term: &mut T) -> Result<(), TerminalFault>
+    ensures ok { OnOk result (Asks prompts (T.screen term.old) (T.screen term.new)) }
+    ensures err { OnErr result (FailsToAsk (T.screen term.old) (T.screen term.new)) }
+{
+    if !prompts {
+        return Ok(());
+    }
+    term.put(b"* ")
+}
+
+/// Answers a line, unless it asks to leave; says how the serving ends, if it does.
 fn obey<T: Terminal>(
     alloc: Global,
     debugger: &mut Debugger,
@@ -43,7 +54,7 @@ fn obey<T: Terminal>(
 }
 
 /// Reads the next line, and obeys it; says how the serving ends, if it does.
-fn serve_line<C: BufRead, T: Terminal>(
+fn read_line<C: BufRead, T: Terminal>(
     alloc: Global,
     debugger: &mut Debugger,
     commands: &mut C,
@@ -61,18 +72,37 @@ fn serve_line<C: BufRead, T: Terminal>(
     }
 }
 
+/// Asks for the next line, reads and obeys it; says how the serving ends, if it does.
+fn serve_line<C: BufRead, T: Terminal>(
+    alloc: Global,
+    debugger: &mut Debugger,
+    prompts: bool,
+    commands: &mut C,
+    term: &mut T,
+) -> Option<Ending>
+    ensures { let old = stage (C.remaining commands.old) debugger.old (T.screen term.old) in
+        let new = stage (C.remaining commands.new) debugger.new (T.screen term.new) in
+        AsksAndServes prompts result old new }
+{
+    match ask(prompts, term) {
+        Ok(()) => read_line(alloc, debugger, commands, term),
+        Err(TerminalFault) => Some(Ending::ShowFault),
+    }
+}
+
 /// Serves commands, a line each, until one is `quit` or none is left.
 pub fn serve<C: BufRead, T: Terminal>(
     alloc: Global,
     debugger: &mut Debugger,
+    prompts: bool,
     commands: &mut C,
     term: &mut T,
 ) -> Ending
-    ensures { ServesLines (stage (C.remaining commands.old) debugger.old (T.screen term.old))
+    ensures { ServesLines prompts (stage (C.remaining commands.old) debugger.old (T.screen term.old))
         (stage (C.remaining commands.new) debugger.new (T.screen term.new)) result }
 {
     for _i in 0..u64::MAX {
-        if let Some(ending) = serve_line(alloc, debugger, commands, term) {
+        if let Some(ending) = serve_line(alloc, debugger, prompts, commands, term) {
             return ending;
         }
     }

@@ -30,6 +30,8 @@ pub enum Counted {
     Text,
     /// So many moves taken back.
     Undo,
+    /// On to a step in this line.
+    Until,
 }
 
 /// What a command takes after its word, and which command it is.
@@ -45,6 +47,8 @@ pub(crate) enum Takes {
     Part,
     /// A line and a column.
     Spot,
+    /// A register, the pointer or the length of the buffer, and which way to go.
+    Watch,
 }
 
 /// One command.
@@ -62,7 +66,7 @@ pub struct VerbRow {
 }
 
 /// Every command, in the order of the help.
-pub const VERBS: [VerbRow; 17] = [
+pub const VERBS: [VerbRow; 19] = [
     VerbRow {
         word: "next",
         letter: "n",
@@ -167,6 +171,20 @@ pub const VERBS: [VerbRow; 17] = [
         takes: Takes::NumberOr(Counted::Undo, 1),
         operand: "[N]",
         help: "takes back the last N moves, 1 without N",
+    },
+    VerbRow {
+        word: "until",
+        letter: "l",
+        takes: Takes::Number(Counted::Until),
+        operand: "LINE",
+        help: "on to the next step in that line of the string",
+    },
+    VerbRow {
+        word: "watch",
+        letter: "d",
+        takes: Takes::Watch,
+        operand: "R [back]",
+        help: "on, or back, to the nearest step where R differs from here: a register, . or Z",
     },
     VerbRow {
         word: "help",

@@ -80,6 +80,17 @@ impl Walk {
         }
     }
 
+    /// Another walk over the same string and input, at the beginning.
+    pub fn anew(&self) -> Result<Walk, NoMemory>
+        ensures string { IfOk result (SameString self.now) }
+        ensures steps { IfOk result (λ walk. walk.steps ≡ 0) }
+    {
+        let alloc = self.alloc();
+        let input = Vec::from_slice(alloc, self.input.as_slice())?;
+        let text = Vec::from_slice(alloc, self.text.as_slice())?;
+        Walk::new(input, text)
+    }
+
     /// The allocator of the walk.
     pub fn alloc(&self) -> Global {
         *self.input.allocator()

@@ -1,10 +1,10 @@
-use Rattle.std.proofs.Common.{[], ◌∷◌, ◌++◌, refl, inl, inr}
+use Rattle.std.proofs.Common.{refl, suc, inl, inr}
 use Rattle.teco_debugger.specs.Serving.{stage}
 use Rattle.teco_debugger.proofs.Served.{answered_more}
 use Rattle.teco_debugger.proofs.serving.serve.Goals as goal
 
 pub loop-i-init : goal.loop-i-init
-loop-i-init g c = ([], refl)
+loop-i-init g c = (0, refl)
 
 pub returns-in-Some : goal.returns-in-Some
 returns-in-Some g c =
@@ -13,16 +13,13 @@ returns-in-Some g c =
       lines = inv.0;
       after = stage (g.C.Read.remaining c.loop-i.commands) c.loop-i.debugger (g.T.Terminal.screen c.loop-i.term);
       answered = inv.1;
-      ends = c.in-Some.ensures;
+      ends = inl c.in-Some.ensures;
     }
 
 pub loop-i-preserved : goal.loop-i-preserved
 loop-i-preserved g c =
     let inv = c.loop-i.invariant in
-    elim c.in_default.ensures [
-      | inl h ↦ (inv.0 ++ h.0 ∷ [], answered_more inv.0 _ _ _ h.0 inv.1 h.1 h.2)
-      | inr h ↦ absurd h
-    ]
+    (suc inv.0, answered_more c.args.prompts inv.0 _ _ _ inv.1 c.in_default.ensures)
 
 pub returns : goal.returns
 returns g c =

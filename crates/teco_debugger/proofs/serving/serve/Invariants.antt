@@ -1,7 +1,7 @@
-use Rattle.std.proofs.Common.{List, ℕ}
+use Rattle.std.proofs.Common.{ℕ}
 use Rattle.teco_debugger.specs.Serving.{AnswersLines, stage}
 use Rattle.teco_debugger.proofs.serving.serve.Given as goal
 
 abbrev pub invariant-loop-i : goal.invariant-loop-i
-invariant-loop-i g l = (lines : List (List ℕ)) × AnswersLines lines (stage (g.C.Read.remaining l.fn.commands) l.fn.debugger (g.T.Terminal.screen l.fn.term))
+invariant-loop-i g l = (lines : ℕ) × AnswersLines l.prompts lines (stage (g.C.Read.remaining l.fn.commands) l.fn.debugger (g.T.Terminal.screen l.fn.term))
     (stage (g.C.Read.remaining l.commands) l.debugger (g.T.Terminal.screen l.term))
