@@ -27,7 +27,7 @@ static const struct code {
     {"PDO", "too many open or pushed"},
     {"POP", "place outside the buffer"},
     {"SNI", "; without an iteration"},
-    {"SRH", "search failed"},
+    {"SRH", "the search found nothing"},
     {"TAG", "no such tag to go to"},
     {"UTC", "text ends inside a command or block"},
     {"YCA", "page would replace a nonempty buffer"},

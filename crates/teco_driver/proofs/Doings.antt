@@ -1,6 +1,6 @@
 -- What a run has done leads to what it has done as seen from before, or over another input.
 use Rattle.teco_io.specs.declared.source.Source.{Ghosts as SourceView}
-use Rattle.std.proofs.Common.{◌≡◌, ◌≢◌, inl, inr, ℕ, List, Bool, IsTrue, Option, None, Some, true, false, refl, ap, sym, ◌∙◌, subst}
+use Rattle.std.proofs.Common.{◌≡◌, ◌≢◌, inl, inr, ℕ, List, length, Bool, IsTrue, Option, None, Some, true, false, refl, ap, sym, ◌∙◌, subst}
 use Rattle.std.specs.declared.io.Error.{Error}
 use Rattle.std.specs.IoError.{error_kind}
 use Rattle.teco_fs.specs.Disk.{Changes, Files}
@@ -20,7 +20,7 @@ use Rattle.teco_serve.specs.Ending.{fate_without_input, output_of}
 use Rattle.teco_driver.specs.Seen.{CommandsSeen, InputSeen, OutputSeen, RunSeen, run_seen}
 use Rattle.teco_fs.specs.Console.{TerminalSeen, terminal_seen}
 use Rattle.teco_fs.specs.Seen.{DiskSeen, KeepsDisk}
-use Rattle.teco_driver.specs.Run.{Doings, Edits, EndsBy, EndsIn, FindsChange, FinishesIn, FailsToWrite, Lacks, LacksInput, ServesInput, bounds_of, doings, doings_after, fate_written, given_input, history_over, input_from, named_input, named_output, replaces_input, standard_input, standard_output}
+use Rattle.teco_driver.specs.Run.{Doings, Edits, EndsBy, EndsIn, FindsChange, FinishesIn, FailsToWrite, Lacks, LacksInput, ServesInput, bounds_of, doings, doings_after, fate_written, given_input, history_over, manner_of, input_from, named_input, named_output, replaces_input, standard_input, standard_output}
 use Rattle.teco_serve.specs.declared.fate.Fate.{Fate}
 use Rattle.teco_serve.specs.declared.fate.Fate.TheVariants.{NoCommands, NoInput, NotRegular, LargeInput, NoMemory, NoOutput, Changed, Unchanged, Lacking, Ended}
 use Rattle.teco_serve.specs.declared.served.Served.{Served}
@@ -331,7 +331,7 @@ read_before false source first last old mid new name bytes same given = given
 pub over_work : {I T : Type 0} (line : Line) (name : List ℕ) (input : InputSeen) (commands : CommandsSeen) (old mid new : DiskSeen I) (screen : T → Screen)
     (before between after : T) (fate : Fate) {bytes place : List ℕ} {first history : History} {end : Served}
     → KeepsDisk old mid → input.is_input bytes → place ≡ output_of line name → first ≡ history_over line commands.depth bytes
-    → Serves (allowance (bounds_of line) commands.asked) line.prompt commands.gave commands.ended (Shows (screen before) (screen between)) first history end
+    → Serves (allowance (bounds_of line (length bytes)) commands.asked) (manner_of line) commands.gave commands.ended (Shows (screen before) (screen between)) first history end
     → FinishesIn (is_standard_output place) end (present history).output (replaces_input line) place mid new screen between after fate
     → Edits line name (run_seen input commands old new screen before after) fate
 over_work line name input commands old mid new screen before between after fate {bytes} {place} {first} {history} {end} kept given named begins serves finishes =
@@ -340,7 +340,7 @@ over_work line name input commands old mid new screen before between after fate 
       input = bytes;
       input_is = refl;
       history = history;
-      serves = subst (λ (h : History). Serves (allowance (bounds_of line) commands.asked) line.prompt commands.gave commands.ended (Shows (screen before) (screen between)) h history end) begins serves;
+      serves = subst (λ (h : History). Serves (allowance (bounds_of line (length bytes)) commands.asked) (manner_of line) commands.gave commands.ended (Shows (screen before) (screen between)) h history end) begins serves;
       output_is = refl;
     }) finishes)
 

@@ -6,3 +6,6 @@ pub mod Seen
 pub mod Run
 pub mod Sources
 pub mod Given
+pub mod Places
+pub mod Reporting
+pub mod Reported

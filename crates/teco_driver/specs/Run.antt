@@ -1,9 +1,10 @@
 -- A run over one input of the line: what it reads, serves and writes, and how it ends.
 use Rattle.teco_io.specs.declared.source.Source.{Ghosts as SourceView}
-use Rattle.std.specs.Prelude.{◌≡◌, ◌≢◌, ◌⊎◌, ◌||◌, ◌&&◌, not, ⊤, ℕ, List, [], codes, Option, Some, None, unwrap_or, Bool, IsTrue, true, false, if◌then◌else◌}
+use Rattle.std.specs.Prelude.{◌≡◌, ◌≢◌, ◌⊎◌, ◌||◌, ◌&&◌, not, ⊤, ℕ, ◌+◌, ◌*◌, List, [], length, codes, Option, Some, None, unwrap_or, Bool, IsTrue, true, false, if◌then◌else◌}
 use Rattle.std.specs.Str.{bytes_eq}
 use Rattle.std.specs.String.{string_bytes}
 use Rattle.teco_io.specs.Terminal.{IsFrontOf, Screen, Shows}
+use Rattle.teco_cli.specs.Conflict.{are_awaited}
 use Rattle.teco_cli.specs.StreamNames.{is_standard_output}
 use Rattle.std.specs.declared.io.Error.{Error}
 use Rattle.teco_core.specs.declared.limits.TheConstants.{FILE_LIMIT}
@@ -24,6 +25,7 @@ use Rattle.teco_fs.specs.Seen.{DiskSeen, KeepsDisk}
 use Rattle.teco_io.specs.Source.{Gives}
 use Rattle.teco_fs.specs.Writing.{AddsDrafts, HasDraft, IsWriteError, IsWriting, WritesOutput}
 use Rattle.teco_serve.specs.declared.alarm.Bounds.{Bounds}
+use Rattle.teco_serve.specs.declared.alarm.Manner.{Manner}
 use Rattle.teco_serve.specs.declared.fate.Fate.{Fate}
 use Rattle.teco_serve.specs.declared.fate.Fate.TheVariants.{NoCommands, NoInput, NotRegular, LargeInput, NoMemory, NoOutput}
 use Rattle.teco_serve.specs.declared.fate.Fate.TheVariants.{Changed, Unchanged, Lacking}
@@ -99,18 +101,31 @@ depth_of line commands =
 abbrev pub history_over : Line → Option ℕ → List ℕ → History
 history_over line depth input = new_paged_history (unwrap_or line.page_lines 0) depth input
 
--- the steps of a string, and its seconds if they are given
-abbrev pub bounds_of : Line → Bounds
-bounds_of line = record { steps = line.limit; seconds = line.seconds }
+-- The most steps that a string may take over an input of so many bytes: as many as the line says. If it says no number they are a
+-- million, and a thousand more for each byte if an option gives the commands.
+abbrev pub limit_of : Line → ℕ → ℕ
+limit_of line length = elim line.limit [
+  | Some limit ↦ limit
+  | None ↦ if are_awaited line.commands then 1000000 else 1000000 + 1000 * length
+]
 
--- The commands were served over an input, from its first state, by the line's limit, seconds, prompt, pages and
+-- Commands of standard input are served in TECO's manner: the code of each error is shown among what they type. Those that an option
+-- gives are served in a tool's manner, and no code is shown.
+abbrev pub manner_of : Line → Manner
+manner_of line = record { prompt = line.prompt; shows_codes = are_awaited line.commands }
+
+-- the steps of a string over an input of so many bytes, and its seconds if they are given
+abbrev pub bounds_of : Line → ℕ → Bounds
+bounds_of line length = record { steps = limit_of line length; seconds = line.seconds }
+
+-- The commands were served over an input, from its first state, by the limit that the line has for it, its seconds, manner, pages and
 -- depth. This ended so, with this output.
 pub record ServesInput (line : Line) (is_input : List ℕ → Type 0) (commands : CommandsSeen)
     (term : TerminalSeen) (served : Served) (output : List ℕ) : Type 0 where
   pub input : List ℕ
   pub input_is : is_input input
   pub history : History
-  pub serves : Serves (allowance (bounds_of line) commands.asked) line.prompt commands.gave commands.ended term.showed
+  pub serves : Serves (allowance (bounds_of line (length input)) commands.asked) (manner_of line) commands.gave commands.ended term.showed
       (history_over line commands.depth input) history served
   pub output_is : output ≡ (present history).output
 

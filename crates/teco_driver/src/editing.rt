@@ -4,11 +4,12 @@ ghost use Rattle.std.specs.Option.{ForSome};
 ghost use Rattle.std.specs.String.{string_bytes};
 ghost use Rattle.teco_core.specs.declared.limits.TheConstants.{DEPTH_LIMIT, FILE_LIMIT};
 ghost use Rattle.teco_cli.specs.CommandLine.{IsDepth};
+ghost use Rattle.teco_cli.specs.Conflict.{are_awaited};
 ghost use Rattle.teco_cli.specs.StreamNames.{is_standard_input, is_standard_output};
 ghost use Rattle.teco_serve.specs.Exchange.{HasRung};
 ghost use Rattle.teco_serve.specs.Ending.{output_of};
 ghost use Rattle.teco_session.specs.History.{present};
-ghost use Rattle.teco_driver.specs.Run.{EndsBy, FinishesIn, bounds_of, depth_of, doings_after, history_over, named_output, replaces_input, standard_output, wants_history};
+ghost use Rattle.teco_driver.specs.Run.{EndsBy, FinishesIn, bounds_of, depth_of, doings_after, history_over, limit_of, manner_of, named_output, replaces_input, standard_output, wants_history};
 ghost use Rattle.teco_driver.specs.Given.{EditsByStream, EditsInput, host_view};
 ghost use Rattle.teco_fs.specs.Seen.{KeepsStream, disk_seen};
 ghost use Rattle.teco_driver.specs.Seen.{commands_seen};
@@ -25,7 +26,7 @@ use teco_core::NoMemory;
 use teco_fs::{Disk, Reason, Written, has_bytes, write_output};
 use teco_io::{Source, Terminal, TerminalFault};
 use teco_scan::asks_history;
-use teco_serve::{Alarm, Bounds, Fate, Listens, Served, Settings, output_name, serve};
+use teco_serve::{Alarm, Bounds, Fate, Listens, Manner, Served, Settings, output_name, serve};
 use teco_session::Session;
 use teco_store::Desk;
 
@@ -163,17 +164,46 @@ fn work_over(
     Ok(Work { session, to })
 }
 
-/// How the line has its commands served.
-fn settings_of(line: &Line) -> Settings
-    ensures bounds { result.bounds ≡ bounds_of line.now }
-    ensures prompt { result.prompt ≡ line.now.prompt }
+/// Whether no option gives the commands, so that they come on standard input.
+pub fn are_awaited(commands: &Commands) -> bool
+    ensures { result ≡ are_awaited commands.now }
+{
+    matches!(commands, Commands::StandardInput)
+}
+
+/// The most steps of a string, if the line says no number.
+const STEPS: u64 = 1_000_000;
+
+/// How many more they are for each byte of the input, if an option gives the commands.
+const STEPS_FOR_A_BYTE: u64 = 1_000;
+
+/// The most steps that a string may take over an input of so many bytes.
+fn limit_of(line: &Line, length: usize) -> u64
+    requires { length ≤ FILE_LIMIT }
+    ensures { result ≡ limit_of line.now length }
+{
+    match (line.limit, &line.commands) {
+        (Some(limit), _) => limit,
+        (None, Commands::StandardInput) => STEPS,
+        (None, _) => STEPS + STEPS_FOR_A_BYTE * length as u64,
+    }
+}
+
+/// How the line has its commands served over an input of so many bytes.
+fn settings_of(line: &Line, length: usize) -> Settings
+    requires { length ≤ FILE_LIMIT }
+    ensures bounds { result.bounds ≡ bounds_of line.now length }
+    ensures manner { result.manner ≡ manner_of line.now }
 {
     Settings {
         bounds: Bounds {
-            steps: line.limit.unwrap_or(1_000_000),
+            steps: limit_of(line, length),
             seconds: line.seconds,
         },
-        prompt: line.prompt,
+        manner: Manner {
+            prompt: line.prompt,
+            shows_codes: are_awaited(&line.commands),
+        },
     }
 }
 
@@ -229,6 +259,7 @@ pub fn edit_by_stream<S: Source, A: Alarm, T: Terminal, L: Listens, D: Disk>(
         Ok(input) => input,
         Err(fate) => return fate,
     };
+    let settings = settings_of(line, input.len());
     let Ok(mut work) = work_over(alloc, line, name, depth_said(line), input) else {
         return Fate::NoMemory;
     };
@@ -236,7 +267,7 @@ pub fn edit_by_stream<S: Source, A: Alarm, T: Terminal, L: Listens, D: Disk>(
         alloc,
         &mut host.commands,
         &mut work.session,
-        settings_of(line),
+        settings,
         &mut host.alarm,
         &mut host.terminal,
         listener,
@@ -266,6 +297,7 @@ pub fn edit_by<C: Source, S: Source, A: Alarm, T: Terminal, L: Listens, D: Disk>
         Ok(input) => input,
         Err(fate) => return fate,
     };
+    let settings = settings_of(line, input.len());
     let Ok(mut work) = work_over(alloc, line, name, depth, input) else {
         return Fate::NoMemory;
     };
@@ -273,7 +305,7 @@ pub fn edit_by<C: Source, S: Source, A: Alarm, T: Terminal, L: Listens, D: Disk>
         alloc,
         commands,
         &mut work.session,
-        settings_of(line),
+        settings,
         &mut host.alarm,
         &mut host.terminal,
         listener,

@@ -6,6 +6,7 @@ ghost use Rattle.teco_cli.specs.Conflict.{has_conflict};
 ghost use Rattle.teco_serve.specs.Exchange.{HasRung};
 ghost use Rattle.teco_cli.specs.Words.{IsLineIn};
 ghost use Rattle.teco_driver.specs.Given.{host_view};
+ghost use Rattle.teco_driver.specs.Reporting.{has_notes};
 ghost use Rattle.teco_driver.specs.Runs.{Runs, RunsOrChecks};
 ghost use Rattle.teco_fs.specs.Seen.{disk_seen};
 
@@ -17,10 +18,10 @@ use std::process::ExitCode;
 use teco_cli::{Line, LineFault, line_in};
 use teco_fs::{Disk, refuse};
 use teco_io::{Source, Terminal};
-use teco_serve::{Alarm, Explainer, Silent};
+use teco_serve::Alarm;
 
-/// Runs over a line, or checks it if it asks for that, and tells how that ends. What is done is explained in the notes if the line asks
-/// for that. Gives the status.
+/// Runs over a line, or checks it if it asks for that, and tells how that ends. What the line asks for is told on the notes. Gives the
+/// status.
 fn run_over<S: Source, A: Alarm, T: Terminal, E: Terminal, N: Terminal, D: Disk>(
     alloc: Global,
     line: &Line,
@@ -32,20 +33,17 @@ fn run_over<S: Source, A: Alarm, T: Terminal, E: Terminal, N: Terminal, D: Disk>
     requires fits { has_conflict line.now ≡ false }
     ensures runs { let view = host_view (disk_seen D.Disk D.Input.Source) S.Source T.screen (HasRung A.answered) in
         RunsOrChecks view E.screen line.now host.old host.new errors.old errors.new result }
-    ensures silent { line.now.explain ≡ false → notes.new ≡ notes.old }
+    ensures silent { has_notes line.now ≡ false → notes.new ≡ notes.old }
 {
     if line.check {
         return check_line(alloc, line, host, errors);
     }
-    if !line.explain {
-        return edit_all(alloc, line, host, errors, &mut Silent);
-    }
-    let mut explainer = Explainer::new(alloc, line, notes);
-    edit_all(alloc, line, host, errors, &mut explainer)
+    edit_all(alloc, line, host, errors, notes)
 }
 
 /// Runs over the line of these words, and gives the status. The alarm of the host breaks off command strings of a line that gives them
-/// seconds. The notes are for what the line asks to be explained.
+/// seconds. The notes are for what is told of the command strings: how those of an option ended, unless the line asks for quiet, and what
+/// it asks to be explained.
 pub fn program<S: Source, A: Alarm, T: Terminal, E: Terminal, N: Terminal, D: Disk>(
     alloc: Global,
     words: Result<Vec<String>, LineFault>,
@@ -55,7 +53,7 @@ pub fn program<S: Source, A: Alarm, T: Terminal, E: Terminal, N: Terminal, D: Di
 ) -> ExitCode
     ensures run { let view = host_view (disk_seen D.Disk D.Input.Source) S.Source T.screen (HasRung A.answered) in
         Runs view E.screen words host.old host.new errors.old errors.new (exit_status result) }
-    ensures silent { (line : Line) → IsLineIn IsLine words line → line.explain ≡ false → notes.new ≡ notes.old }
+    ensures silent { (line : Line) → IsLineIn IsLine words line → has_notes line ≡ false → notes.new ≡ notes.old }
 {
     match line_in::<Line>(alloc, words) {
         Ok(line) => ExitCode::from(run_over(alloc, &line, host, errors, notes)),

@@ -75,7 +75,9 @@ impl ReadSources {
     }
 
     /// Those that are kept, in order.
-    pub fn list(&self) -> &[ReadSource] {
+    pub fn list(&self) -> &[ReadSource]
+        ensures { result.now ≡ self.now.list.items }
+    {
         self.list.as_slice()
     }
 

@@ -4,6 +4,7 @@ ghost use Rattle.teco_lint.specs.Spelling.{is_misspelt};
 ghost use Rattle.teco_lint.specs.Strings.{is_faulty};
 ghost use Rattle.teco_driver.specs.Checks.{RunWithoutFault, SaysOfLine, SaysAlone, SaysOf};
 
+use crate::placing::byte_places;
 use crate::{ReadSources, source_name};
 use std::alloc::Global;
 use teco_cli::Commands;
@@ -18,21 +19,6 @@ pub(crate) struct Verdict {
     pub(crate) lines: String,
     pub(crate) is_faulty: bool,
     pub(crate) is_misspelt: bool,
-}
-
-/// For each byte of the commands for every page, where in their source it begins: two come before those of the source.
-fn places_on_pages(alloc: Global, source: &[u8]) -> Result<Vec<usize>, NoMemory> {
-    let mut places = vec![in alloc; 0; 2]?;
-    places.extend_from_slice(beginnings(alloc, source)?.as_slice())?;
-    Ok(places)
-}
-
-/// For each byte of the commands of a source, where it begins there.
-fn places_of(alloc: Global, commands: &Commands, source: &[u8]) -> Result<Vec<usize>, NoMemory> {
-    match commands {
-        Commands::Pages(_) => places_on_pages(alloc, source),
-        _ => beginnings(alloc, source),
-    }
 }
 
 /// The lines that tell of a check, those of each source with its name. What is told of the end belongs to the last one.
@@ -53,7 +39,7 @@ fn lines_of_parts(
             part.to
         };
         let name = source_name(commands, part.at);
-        let places = places_of(alloc, commands, part.source.as_slice())?;
+        let places = byte_places(alloc, commands, part.source.as_slice())?;
         report_part(
             &mut lines,
             name,

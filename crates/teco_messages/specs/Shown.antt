@@ -39,7 +39,7 @@ sentence_of code.Dvz = codes "division by zero"
 sentence_of code.Pdo = codes "too many open or pushed"
 sentence_of code.Pop = codes "place outside the buffer"
 sentence_of code.Sni = codes "; without an iteration"
-sentence_of code.Srh = codes "search failed"
+sentence_of code.Srh = codes "the search found nothing"
 sentence_of code.Tag = codes "no such tag to go to"
 sentence_of code.Utc = codes "text ends inside a command or block"
 sentence_of code.Yca = codes "page would replace a nonempty buffer"
@@ -67,3 +67,24 @@ code_shown_with limits code.Lim = limit_shown limits.steps limits.seconds
 code_shown_with limits code.Big =
     codes ": BIG, a text may have " ++ decimal limits.bytes ++ codes " bytes: --page-lines N makes smaller pages"
 code_shown_with limits c = code_shown c
+
+-- a code, a colon and what it says
+abbrev pub plain_reason : Code → List ℕ
+plain_reason code = letters_of code ++ codes ": " ++ sentence_of code
+
+-- the same of LIM
+abbrev pub limit_reason : ℕ → Option ℕ → List ℕ
+limit_reason steps None = codes "LIM: " ++ decimal steps ++ codes " steps are done: --limit N allows more"
+limit_reason steps (Some seconds) =
+    codes "LIM: the time of " ++ decimal seconds ++ codes " s is over: --seconds N allows more"
+
+-- the same of any code; where a limit is reached, how large it is and what helps
+abbrev pub reason_with : Limits → Code → List ℕ
+reason_with limits code.Lim = limit_reason limits.steps limits.seconds
+reason_with limits code.Big =
+    codes "BIG: a text may have " ++ decimal limits.bytes ++ codes " bytes: --page-lines N makes smaller pages"
+reason_with limits c = plain_reason c
+
+abbrev pub reason_shown : Option Limits → Code → List ℕ
+reason_shown None code = plain_reason code
+reason_shown (Some limits) code = reason_with limits code

@@ -2,7 +2,7 @@
 
 ghost use Rattle.std.specs.Prelude.{◌≡◌, ◌++◌, OnOk};
 ghost use Rattle.std.specs.String.{string_bytes};
-ghost use Rattle.teco_messages.specs.Shown.{code_shown, code_shown_with, limit_shown, sentence_of};
+ghost use Rattle.teco_messages.specs.Shown.{code_shown, code_shown_with, limit_reason, limit_shown, plain_reason, reason_shown, reason_with, sentence_of};
 
 use std::fmt::Write;
 use teco_core::{Code, NoMemory};
@@ -44,7 +44,7 @@ pub fn sentence(code: Code) -> &'static str
         Code::Pdo => "too many open or pushed",
         Code::Pop => "place outside the buffer",
         Code::Sni => "; without an iteration",
-        Code::Srh => "search failed",
+        Code::Srh => "the search found nothing",
         Code::Tag => "no such tag to go to",
         Code::Utc => "text ends inside a command or block",
         Code::Yca => "page would replace a nonempty buffer",
@@ -93,5 +93,53 @@ pub fn show_code_with_limits(out: &mut String, code: Code, limits: Limits) -> Re
             )
         }
         _ => show_code(out, code),
+    }
+}
+
+/// Shows a code, a colon and what it says.
+fn show_plain_reason(out: &mut String, code: Code) -> Result<(), NoMemory>
+    ensures { OnOk result (string_bytes out.new ≡ string_bytes out.old ++ plain_reason code) }
+{
+    let said = sentence(code);
+    write!(out, "{code}: {said}")
+}
+
+/// The same of LIM: that a string has done all its steps, or that its seconds are over.
+fn show_limit_reason(out: &mut String, steps: u64, seconds: Option<u64>) -> Result<(), NoMemory>
+    ensures { OnOk result (string_bytes out.new ≡ string_bytes out.old ++ limit_reason steps seconds) }
+{
+    match seconds {
+        None => write!(out, "LIM: {steps} steps are done: --limit N allows more"),
+        Some(seconds) => write!(
+            out,
+            "LIM: the time of {seconds} s is over: --seconds N allows more"
+        ),
+    }
+}
+
+/// The same of any code; where a limit is reached, how large it is and what helps.
+fn show_reason_with(out: &mut String, code: Code, limits: Limits) -> Result<(), NoMemory>
+    ensures { OnOk result (string_bytes out.new ≡ string_bytes out.old ++ reason_with limits code) }
+{
+    match code {
+        Code::Lim => show_limit_reason(out, limits.steps, limits.seconds),
+        Code::Big => {
+            let bytes = limits.bytes;
+            write!(
+                out,
+                "BIG: a text may have {bytes} bytes: --page-lines N makes smaller pages"
+            )
+        }
+        _ => show_plain_reason(out, code),
+    }
+}
+
+/// Shows a code, a colon and what it says; where a limit is reached that is known, how large it is and what helps.
+pub fn show_reason(out: &mut String, code: Code, limits: Option<Limits>) -> Result<(), NoMemory>
+    ensures { OnOk result (string_bytes out.new ≡ string_bytes out.old ++ reason_shown limits code) }
+{
+    match limits {
+        None => show_plain_reason(out, code),
+        Some(limits) => show_reason_with(out, code, limits),
     }
 }

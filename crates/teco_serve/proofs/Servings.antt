@@ -7,6 +7,7 @@ use Rattle.teco_scan.specs.Stream.{Asks, asks_of, requests, texts_of}
 use Rattle.teco_serve.specs.Serving.{AreFirstOf, Exchanges, Exits, GoOn, Shown, all_shown, asked_in, exchanges_shown, is_read_fault, is_read_out}
 use Rattle.teco_serve.specs.Held.{IsExchange, ExchangeEnds, HeldEnds, CutsOff}
 use Rattle.teco_serve.specs.Cut.{AsksFirst, value_of}
+use Rattle.teco_serve.specs.declared.alarm.Manner.{Manner}
 use Rattle.teco_serve.specs.declared.splitter.Asked.{Asked}
 use Rattle.teco_serve.specs.declared.served.Served.{Served}
 use Rattle.teco_serve.specs.declared.served.Served.TheVariants.{Exit, EndOfCommands, ReadFault, ShowFault, NoMemory}
@@ -25,12 +26,12 @@ pub GoOn-append : (xs ys : List Exchange) → GoOn xs → GoOn ys → GoOn (xs +
 GoOn-append [] ys p q = q
 GoOn-append (x ∷ xs) ys p q = (p.0, GoOn-append xs ys p.1 q)
 
-pub exchanges_shown-append : (prompt : Bool) (xs ys : List Exchange) → exchanges_shown prompt (xs ++ ys) ≡ exchanges_shown prompt xs ++ exchanges_shown prompt ys
-exchanges_shown-append prompt [] ys = refl
-exchanges_shown-append prompt (x ∷ xs) ys = ap (λ l. exchange_shown prompt x ++ l) (exchanges_shown-append prompt xs ys) ∙ sym (append_assoc (exchange_shown prompt x) (exchanges_shown prompt xs) (exchanges_shown prompt ys))
+pub exchanges_shown-append : (manner : Manner) (xs ys : List Exchange) → exchanges_shown manner (xs ++ ys) ≡ exchanges_shown manner xs ++ exchanges_shown manner ys
+exchanges_shown-append manner [] ys = refl
+exchanges_shown-append manner (x ∷ xs) ys = ap (λ l. exchange_shown manner x ++ l) (exchanges_shown-append manner xs ys) ∙ sym (append_assoc (exchange_shown manner x) (exchanges_shown manner xs) (exchanges_shown manner ys))
 
-pub exchanges_shown-one : (prompt : Bool) (xs : List Exchange) (y : Exchange) → exchanges_shown prompt (xs ++ y ∷ []) ≡ exchanges_shown prompt xs ++ exchange_shown prompt y
-exchanges_shown-one prompt xs y = exchanges_shown-append prompt xs (y ∷ []) ∙ ap (λ l. exchanges_shown prompt xs ++ l) (append-nil (exchange_shown prompt y))
+pub exchanges_shown-one : (manner : Manner) (xs : List Exchange) (y : Exchange) → exchanges_shown manner (xs ++ y ∷ []) ≡ exchanges_shown manner xs ++ exchange_shown manner y
+exchanges_shown-one manner xs y = exchanges_shown-append manner xs (y ∷ []) ∙ ap (λ l. exchanges_shown manner xs ++ l) (append-nil (exchange_shown manner y))
 
 pub asked_in-append : (xs ys : List Exchange) → asked_in (xs ++ ys) ≡ asked_in xs ++ asked_in ys
 asked_in-append [] ys = refl
@@ -70,25 +71,25 @@ pub exchange_more : (allowed : Allowance) (start mid new : History) (h0 h1 h2 : 
 exchange_more allowed start mid new h0 h1 h2 exchanges exchange asked p q first t =
     (Exchanges-more allowed start mid new exchanges exchange (value_of asked) p t, CutsOff-append h0 h1 h2 exchanges (exchange ∷ []) q (CutsOff-cut h1 h2 exchange asked first t.asked_is))
 
-joined : (prompt : Bool) (xs ys : List Exchange) → all_shown prompt xs ++ exchanges_shown prompt ys ≡ all_shown prompt (xs ++ ys)
-joined prompt xs ys = append_assoc (star prompt) (exchanges_shown prompt xs) (exchanges_shown prompt ys) ∙ ap (λ l. star prompt ++ l) (sym (exchanges_shown-append prompt xs ys))
+joined : (manner : Manner) (xs ys : List Exchange) → all_shown manner xs ++ exchanges_shown manner ys ≡ all_shown manner (xs ++ ys)
+joined manner xs ys = append_assoc (star manner.prompt) (exchanges_shown manner xs) (exchanges_shown manner ys) ∙ ap (λ l. star manner.prompt ++ l) (sym (exchanges_shown-append manner xs ys))
 
-module _ (first second whole : List ℕ → Bool → Type 0) (joins : Joins first second whole) (prompt : Bool) (xs : List Exchange) (going : GoOn xs) where
+module _ (first second whole : List ℕ → Bool → Type 0) (joins : Joins first second whole) (manner : Manner) (xs : List Exchange) (going : GoOn xs) where
   -- after exchanges that went on, one more
-  pub exchange_shows : (x : Exchange) → first (exchanges_shown prompt xs) false → second (exchange_shown prompt x) false → whole (exchanges_shown prompt (xs ++ x ∷ [])) false
-  exchange_shows x p q = subst (λ l. whole l false) (sym (exchanges_shown-one prompt xs x)) (joins.more (exchanges_shown prompt xs) (exchange_shown prompt x) false p q)
+  pub exchange_shows : (x : Exchange) → first (exchanges_shown manner xs) false → second (exchange_shown manner x) false → whole (exchanges_shown manner (xs ++ x ∷ [])) false
+  exchange_shows x p q = subst (λ l. whole l false) (sym (exchanges_shown-one manner xs x)) (joins.more (exchanges_shown manner xs) (exchange_shown manner x) false p q)
 
   -- one that ended the serving
-  pub HeldEnds-one : (x : Exchange) (served : Served) → first (exchanges_shown prompt xs) false → ExchangeEnds second prompt x (Some served) → HeldEnds whole prompt (xs ++ x ∷ []) (Some served)
+  pub HeldEnds-one : (x : Exchange) (served : Served) → first (exchanges_shown manner xs) false → ExchangeEnds second manner x (Some served) → HeldEnds whole manner (xs ++ x ∷ []) (Some served)
   HeldEnds-one x Exit p e = (xs, x, record { parts = refl; going = going }, e.0, exchange_shows x p e.1)
   HeldEnds-one x EndOfCommands p e = e
   HeldEnds-one x ReadFault p e = e
-  HeldEnds-one x ShowFault p e = (xs, x, record { parts = refl; going = going }, e.0, BreaksOff-first first second whole joins (exchanges_shown prompt xs) (exchange_shown prompt x) p e.1)
+  HeldEnds-one x ShowFault p e = (xs, x, record { parts = refl; going = going }, e.0, BreaksOff-first first second whole joins (exchanges_shown manner xs) (exchange_shown manner x) p e.1)
   HeldEnds-one x NoMemory p e = absurd e
 
   -- after all that was shown before, what the exchanges of the last piece show
-  pub held_shows : (ys : List Exchange) → first (all_shown prompt xs) false → second (exchanges_shown prompt ys) false → whole (all_shown prompt (xs ++ ys)) false
-  held_shows ys p q = subst (λ l. whole l false) (joined prompt xs ys) (joins.more (all_shown prompt xs) (exchanges_shown prompt ys) false p q)
+  pub held_shows : (ys : List Exchange) → first (all_shown manner xs) false → second (exchanges_shown manner ys) false → whole (all_shown manner (xs ++ ys)) false
+  held_shows ys p q = subst (λ l. whole l false) (joined manner xs ys) (joins.more (all_shown manner xs) (exchanges_shown manner ys) false p q)
 
   -- the serving ends as the exchanges of the last piece ended
   pub record EndsSo (exchanges : List Exchange) (served : Served) : Type 0 where
@@ -96,9 +97,9 @@ module _ (first second whole : List ℕ → Bool → Type 0) (joins : Joins firs
     pub all : is_read_out served ≡ true → ⊥
     pub ended : served ≡ EndOfCommands → ⊥
     pub exit : Exits served exchanges
-    pub shown : Shown whole prompt exchanges served
+    pub shown : Shown whole manner exchanges served
 
-  pub ends_from : (ys : List Exchange) (served : Served) → first (all_shown prompt xs) false → HeldEnds second prompt ys (Some served) → EndsSo (xs ++ ys) served
+  pub ends_from : (ys : List Exchange) (served : Served) → first (all_shown manner xs) false → HeldEnds second manner ys (Some served) → EndsSo (xs ++ ys) served
   ends_from ys Exit p s = record {
     read = refl;
     all = λ e. true≢false (sym e);
@@ -114,11 +115,11 @@ module _ (first second whole : List ℕ → Bool → Type 0) (joins : Joins firs
     ended = λ e. cc;
     exit = GoOn-append xs ys going (subst GoOn (sym s.2.parts) (GoOn-append s.0 (s.1 ∷ []) s.2.going (s.3, tt)));
     shown = record {
-      before = all_shown prompt (xs ++ s.0);
-      last = exchange_shown prompt s.1;
+      before = all_shown manner (xs ++ s.0);
+      last = exchange_shown manner s.1;
       parts = inr (xs ++ s.0, s.1, ap (λ l. xs ++ l) s.2.parts ∙ sym (append_assoc xs s.0 (s.1 ∷ [])), refl, refl);
-      breaks = subst (λ l. BreaksOff whole l (exchange_shown prompt s.1)) (joined prompt xs s.0)
-          (BreaksOff-after first second whole joins (all_shown prompt xs) (exchanges_shown prompt s.0) (exchange_shown prompt s.1) p s.4);
+      breaks = subst (λ l. BreaksOff whole l (exchange_shown manner s.1)) (joined manner xs s.0)
+          (BreaksOff-after first second whole joins (all_shown manner xs) (exchanges_shown manner s.0) (exchange_shown manner s.1) p s.4);
     };
   }
   ends_from ys NoMemory p s = record {

@@ -16,6 +16,7 @@ use Rattle.teco_scan.specs.Stream.{Asks, is_run}
 use Rattle.teco_scan.specs.Stream.Asks.{Run, Undo, Redo, Rewind}
 use Rattle.teco_serve.specs.Message.{replies_shown, star}
 use Rattle.teco_serve.specs.declared.alarm.Bounds.{Bounds}
+use Rattle.teco_serve.specs.declared.alarm.Manner.{Manner}
 
 -- What a command string is allowed: its most steps, and after how many it was asked to stop.
 pub record Allowance : Type 1 where
@@ -85,9 +86,9 @@ abbrev pub exits : Exchange → Bool
 exits exchange = is_exit exchange.asked exchange.before exchange.after
 
 -- what is shown of an exchange: its replies, and a star unless it ends the serving
-abbrev pub exchange_shown : Bool → Exchange → List ℕ
-exchange_shown prompt exchange =
-    replies_shown exchange.replies ++ (if exits exchange then [] else star prompt)
+abbrev pub exchange_shown : Manner → Exchange → List ℕ
+exchange_shown manner exchange =
+    replies_shown manner exchange.replies ++ (if exits exchange then [] else star manner.prompt)
 
 -- A put failed while the last bytes were shown, of which there are some: all bytes before them are shown, a
 -- beginning of them, and no more.

@@ -1,5 +1,5 @@
 -- What `--explain` tells, and when.
-use Rattle.std.specs.Prelude.{◌≡◌, ◌⊎◌, ℕ, ◌+◌, ◌-◌, ◌^◌, ◌==◌, List, [], ◌++◌, length, min, codes, nat_lt, count_by, if◌then◌else◌, Option, Some, None, option_map, Result, Ok, Err, Bool, true, false, ◌&&◌}
+use Rattle.std.specs.Prelude.{◌≡◌, ◌⊎◌, ℕ, ◌+◌, ◌-◌, ◌^◌, ◌==◌, List, [], ◌++◌, length, min, codes, nat_lt, count_by, if◌then◌else◌, Option, Some, None, Result, Ok, Err, Bool, true, false, ◌&&◌}
 use Rattle.std.specs.Fmt.{decimal}
 use Rattle.std.specs.List.{list_all}
 use Rattle.std.specs.String.{string_bytes}
@@ -12,6 +12,10 @@ use Rattle.teco_core.specs.declared.limits.TheConstants.{TEXT_LIMIT}
 use Rattle.teco_exec.specs.declared.place.Place.{Place}
 use Rattle.teco_cli.specs.declared.line.Line.{Line}
 use Rattle.teco_fs.specs.Refusing.{Tells}
+use Rattle.teco_serve.specs.Ending.{output_of}
+use Rattle.teco_serve.specs.Heard.{Heard}
+use Rattle.teco_serve.specs.Heard.Heard.{Ran, Moved, Left, Finished}
+use Rattle.teco_serve.specs.declared.alarm.Bounds.{Bounds}
 use Rattle.teco_serve.specs.declared.fate.Fate.{Fate}
 use Rattle.teco_serve.specs.declared.fate.Fate.TheVariants.{NoCommands, NoInput, NotRegular, LargeInput, NoMemory, NoOutput, Changed, Unchanged, Lacking}
 use Rattle.teco_serve.specs.declared.fate.Fate.TheVariants.{Ended}
@@ -36,10 +40,13 @@ abbrev pub of_string : ℕ → List ℕ
 of_string n = codes "string " ++ decimal n
 
 -- The seconds are told only of a string that was broken off, since it had steps left.
-abbrev pub limits_after : Limits → Option Outcome → Limits
-limits_after limits None = record limits { seconds = None }
-limits_after limits (Some outcome) =
-    if nat_lt outcome.steps limits.steps then limits else record limits { seconds = None }
+abbrev pub seconds_after : Bounds → Option Outcome → Option ℕ
+seconds_after bounds None = None
+seconds_after bounds (Some outcome) = if nat_lt outcome.steps bounds.steps then bounds.seconds else None
+
+-- how large the limits are of a string that ran within these bounds
+abbrev pub limits_after : Bounds → Option Outcome → Limits
+limits_after bounds ended = record { steps = bounds.steps; seconds = seconds_after bounds ended; bytes = TEXT_LIMIT }
 
 -- where the run last stood, unless memory lacked for that
 abbrev pub place_had : Result (Option Place) AllocError → Option Place
@@ -47,11 +54,11 @@ place_had (Ok place) = place
 place_had (Err lacking) = None
 
 -- why a text that was run stopped, if it has a code
-abbrev pub stop_line : ℕ → Limits → List ℕ → Answered → KeptSession → Option Code → List ℕ
-stop_line n limits text answered session None = []
-stop_line n limits text answered session (Some code) =
+abbrev pub stop_line : ℕ → Bounds → List ℕ → Answered → KeptSession → Option Code → List ℕ
+stop_line n bounds text answered session None = []
+stop_line n bounds text answered session (Some code) =
     of_string n ++ stop_shown (place_had answered.place) (state_of session.editor).registers text code
-    (Some (limits_after limits (outcome_of answered.answer))) ++ codes "\n"
+    (Some (limits_after bounds (outcome_of answered.answer))) ++ codes "\n"
 
 -- how many steps it took
 abbrev pub steps_line : ℕ → ℕ → List ℕ
@@ -89,20 +96,15 @@ exit_line place session ended = if exits_first place session ended
 abbrev pub next_number : Telling → ℕ
 next_number t = min (t.texts + 1) (2 ^ 64 - 1)
 
--- before the first text: what the line wants told, and its limits
+-- before the first text: what the line wants told
 abbrev pub beginning_of : Line → Telling
-beginning_of line = record {
-  counts = line.prompt;
-  limits = record { steps = line.limit; seconds = line.seconds; bytes = TEXT_LIMIT };
-  texts = 0;
-  place = 0;
-}
+beginning_of line = record { counts = line.prompt; texts = 0; place = 0 }
 
 -- What is told of a text that was run: why it stopped; how many steps it took, if that is wanted; and an exit that
 -- came first.
-abbrev pub run_lines : Telling → List ℕ → Answered → KeptSession → List ℕ
-run_lines t text answered session =
-    stop_line (next_number t) t.limits text answered session (answer_code answered.answer)
+abbrev pub run_lines : Telling → Bounds → List ℕ → Answered → KeptSession → List ℕ
+run_lines t bounds text answered session =
+    stop_line (next_number t) bounds text answered session (answer_code answered.answer)
     ++ steps_told (next_number t) t.counts (outcome_of answered.answer)
     ++ exit_line t.place session (outcome_of answered.answer)
 
@@ -166,11 +168,6 @@ abbrev pub told : Result (String Global) AllocError → List ℕ
 told (Ok lines) = string_bytes lines
 told (Err lacking) = codes "no memory to explain\n"
 
--- What a listener tells of, if it tells anything; and what is seen of the notes that it tells it on.
-pub record Hearing : Type 0 where
-  pub telling : Option Telling
-  pub notes : Screen
-
 -- one more text was done, and so much of the input is read now
 abbrev pub counted : KeptSession → Telling → Telling
 counted session t = record t { texts = next_number t; place = (state_of session.editor).place }
@@ -179,12 +176,26 @@ counted session t = record t { texts = next_number t; place = (state_of session.
 abbrev pub anew : Telling → Telling
 anew t = record t { texts = 0; place = 0 }
 
--- the lines of a listener that tells any
-abbrev pub lines_by : (Telling → List ℕ) → Option Telling → List ℕ
-lines_by lines None = []
-lines_by lines (Some t) = lines t
+-- What `--explain` tells of what was heard.
+abbrev pub explained : Heard → Telling → List ℕ
+explained (Ran text begins answered bounds session) t = run_lines t bounds text answered session
+explained (Moved begins code session) t = move_lines t code session
+explained (Left bytes broken_off) t = left_line bytes broken_off
+explained (Finished line input fate) t = end_line (output_of line input) fate
 
--- A listener that tells has told these lines before the call ends, and one that doesn't tells nothing.
-abbrev pub HasTold : Hearing → Hearing → (Telling → List ℕ) → (Telling → Telling) → Type 0
-HasTold old new lines after =
-    (new.telling ≡ option_map after old.telling) × TellsLines old.notes new.notes (lines_by lines old.telling)
+-- what it counts once that was heard
+abbrev pub after_hearing : Heard → Telling → Telling
+after_hearing (Ran text begins answered bounds session) t = counted session t
+after_hearing (Moved begins code session) t = counted session t
+after_hearing (Left bytes broken_off) t = t
+after_hearing (Finished line input fate) t = anew t
+
+-- what a listener tells of, and what is seen of the notes that it tells it on
+pub record Hearing : Type 0 where
+  pub telling : Telling
+  pub notes : Screen
+
+-- The lines are told before the call ends in which the listener hears of it.
+abbrev pub HasTold : Hearing → Hearing → Heard → Type 0
+HasTold old new heard =
+    (new.telling ≡ after_hearing heard old.telling) × TellsLines old.notes new.notes (explained heard old.telling)

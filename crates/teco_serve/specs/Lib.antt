@@ -5,4 +5,5 @@ pub mod Exchange
 pub mod Serving
 pub mod Held
 pub mod Ending
+pub mod Heard
 pub mod Explaining

@@ -5,6 +5,7 @@ use Rattle.teco_session.specs.History.{History}
 use Rattle.teco_scan.specs.Stream.{Asks, requests}
 use Rattle.teco_serve.specs.Message.{star}
 use Rattle.teco_serve.specs.Exchange.{Allowance, Exchange, Does, BreaksOff, exits, exchange_shown}
+use Rattle.teco_serve.specs.declared.alarm.Manner.{Manner}
 use Rattle.teco_serve.specs.declared.served.Served.{Served}
 use Rattle.teco_serve.specs.declared.served.Served.TheVariants.{Exit, EndOfCommands, ReadFault, ShowFault, NoMemory}
 
@@ -27,12 +28,12 @@ pub record EndsBy (exchanges before : List Exchange) (last : Exchange) : Type 0 
 abbrev pub asked_in : List Exchange → List Asks
 asked_in exchanges = map (λ x. x.asked) exchanges
 
-abbrev pub exchanges_shown : Bool → List Exchange → List ℕ
-exchanges_shown prompt exchanges = flat_map (exchange_shown prompt) exchanges
+abbrev pub exchanges_shown : Manner → List Exchange → List ℕ
+exchanges_shown manner exchanges = flat_map (exchange_shown manner) exchanges
 
 -- what is shown in all: a star at the beginning, and what each exchange shows
-abbrev pub all_shown : Bool → List Exchange → List ℕ
-all_shown prompt exchanges = star prompt ++ exchanges_shown prompt exchanges
+abbrev pub all_shown : Manner → List Exchange → List ℕ
+all_shown manner exchanges = star manner.prompt ++ exchanges_shown manner exchanges
 
 -- The exchanges are for the first texts of the bytes.
 abbrev pub AreFirstOf : List Exchange → List ℕ → Type 0
@@ -65,32 +66,32 @@ Exits NoMemory exchanges = GoOn exchanges
 
 -- These bytes are the last to be shown, and those all before them: where nothing was done yet, the first
 -- star; else what the last exchange shows.
-abbrev pub AreLast : Bool → List Exchange → List ℕ → List ℕ → Type 0
-AreLast prompt exchanges before last =
-    ((exchanges ≡ []) × (before ≡ []) × (last ≡ star prompt))
-    ⊎ ((xs : List Exchange) × (x : Exchange) × (exchanges ≡ xs ++ x ∷ []) × (before ≡ all_shown prompt xs)
-    × (last ≡ exchange_shown prompt x))
+abbrev pub AreLast : Manner → List Exchange → List ℕ → List ℕ → Type 0
+AreLast manner exchanges before last =
+    ((exchanges ≡ []) × (before ≡ []) × (last ≡ star manner.prompt))
+    ⊎ ((xs : List Exchange) × (x : Exchange) × (exchanges ≡ xs ++ x ∷ []) × (before ≡ all_shown manner xs)
+    × (last ≡ exchange_shown manner x))
 
 -- The last to be shown was not: nothing is done after the put that failed.
-pub record FailsToShow (showed : List ℕ → Bool → Type 0) (prompt : Bool)
+pub record FailsToShow (showed : List ℕ → Bool → Type 0) (manner : Manner)
     (exchanges : List Exchange) : Type 0 where
   pub before : List ℕ
   pub last : List ℕ
-  pub parts : AreLast prompt exchanges before last
+  pub parts : AreLast manner exchanges before last
   pub breaks : BreaksOff showed before last
 
 -- A put failed only where the serving ended by that; else all is shown.
-abbrev pub Shown : (List ℕ → Bool → Type 0) → Bool → List Exchange → Served → Type 0
-Shown showed prompt exchanges ShowFault = FailsToShow showed prompt exchanges
-Shown showed prompt exchanges Exit = showed (all_shown prompt exchanges) false
-Shown showed prompt exchanges EndOfCommands = showed (all_shown prompt exchanges) false
-Shown showed prompt exchanges ReadFault = showed (all_shown prompt exchanges) false
-Shown showed prompt exchanges NoMemory = showed (all_shown prompt exchanges) false
+abbrev pub Shown : (List ℕ → Bool → Type 0) → Manner → List Exchange → Served → Type 0
+Shown showed manner exchanges ShowFault = FailsToShow showed manner exchanges
+Shown showed manner exchanges Exit = showed (all_shown manner exchanges) false
+Shown showed manner exchanges EndOfCommands = showed (all_shown manner exchanges) false
+Shown showed manner exchanges ReadFault = showed (all_shown manner exchanges) false
+Shown showed manner exchanges NoMemory = showed (all_shown manner exchanges) false
 
--- What serving a stream does, with what each string is allowed, with a prompt or without.
+-- What serving a stream does, with what each string is allowed, in this manner.
 -- `gave` says which bytes the source gave, and whether a read failed; `at_end` that it has ended; `showed`
 -- which bytes the terminal showed, and whether it failed.
-pub record Serves (allowed : Allowance) (prompt : Bool) (gave : List ℕ → Bool → Type 0) (at_end : Type 0)
+pub record Serves (allowed : Allowance) (manner : Manner) (gave : List ℕ → Bool → Type 0) (at_end : Type 0)
     (showed : List ℕ → Bool → Type 0) (old new : History) (served : Served) : Type 0 where
   -- what was read; a read failed only where the serving ended by that
   pub bytes : List ℕ
@@ -106,4 +107,4 @@ pub record Serves (allowed : Allowance) (prompt : Bool) (gave : List ℕ → Boo
   -- it ends by an exit exactly after the run that made the session done
   pub exit : Exits served exchanges
   -- what was shown
-  pub shown : Shown showed prompt exchanges served
+  pub shown : Shown showed manner exchanges served

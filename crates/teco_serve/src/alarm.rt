@@ -15,13 +15,22 @@ pub struct Bounds {
     pub seconds: Option<u64>,
 }
 
+/// What is shown besides what commands type.
+#[derive(Clone, Copy)]
+pub struct Manner {
+    /// Whether a star asks for commands.
+    pub prompt: bool,
+    /// Whether the code of an error is shown.
+    pub shows_codes: bool,
+}
+
 /// How a stream of commands is served.
 #[derive(Clone, Copy)]
 pub struct Settings {
     /// How far each command string may run.
     pub bounds: Bounds,
-    /// Whether a star asks for commands.
-    pub prompt: bool,
+    /// What is shown besides what they type.
+    pub manner: Manner,
 }
 
 /// What asks a command string to stop when it has run long enough.

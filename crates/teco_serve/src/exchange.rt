@@ -1,10 +1,10 @@
 //! One text of the stream: what it asks is done, and the answers are shown.
-ghost use Rattle.std.specs.Prelude.{◌≡◌, ◌≢◌, ℕ, List, [], ◌&&◌, not, None, true, false, OnErr, OnOk};
+ghost use Rattle.std.specs.Prelude.{◌≡◌, ◌≢◌, ℕ, List, [], ◌&&◌, not, Some, None, true, false, OnErr, OnOk};
 ghost use Rattle.teco_serve.specs.Cut.{value_of};
 ghost use Rattle.teco_serve.specs.Exchange.{Does, Exchange, HasRung, MovesInHistory, Repeats, RunsAllowed, allowance, is_exit};
-ghost use Rattle.teco_serve.specs.Explaining.{HasTold, counted, move_lines, run_lines};
+ghost use Rattle.teco_serve.specs.Heard.Heard.{Moved, Ran};
 ghost use Rattle.teco_serve.specs.Held.{ExchangeEnds, IsExchange};
-ghost use Rattle.teco_serve.specs.Message.{code_line, message, replies_shown, star};
+ghost use Rattle.teco_serve.specs.Message.{code_line, is_shown, line_of, message, replies_shown, star};
 ghost use Rattle.teco_scan.specs.Stream.{is_run};
 ghost use Rattle.teco_scan.specs.Stream.Asks.{Run};
 ghost use Rattle.teco_session.specs.Answers.{answer_code, string_outcome};
@@ -15,7 +15,7 @@ ghost use Rattle.teco_exec.specs.Runs.{RunsWithin, StillSays};
 ghost use Rattle.teco_session.specs.Step.{Reply, RunStep, is_terminal_failure};
 ghost use Rattle.teco_io.specs.Terminal.{Puts, Shows};
 
-use crate::alarm::{Alarm, Bounds, Settings};
+use crate::alarm::{Alarm, Manner, Settings};
 use crate::listener::Listens;
 use crate::served::Served;
 use crate::splitter::Asked;
@@ -33,54 +33,80 @@ fn code_line(code: Code) -> [u8; 6]
     [b'?', first, second, third, b'\r', b'\n']
 }
 
+/// Whether a code is shown: where codes are; and that of a terminal that failed, which none sees.
+fn is_shown(manner: Manner, code: Code) -> bool
+    ensures { result ≡ is_shown manner code }
+{
+    manner.shows_codes || matches!(code, Code::Tty)
+}
+
+/// Shows the line of a code, if codes are shown.
+fn show_code<T: Terminal>(code: Code, manner: Manner, term: &mut T) -> Result<(), TerminalFault>
+    ensures puts { Puts (T.screen term.old) (T.screen term.new) (line_of manner (Some code)) result }
+    ensures some { OnErr result (line_of manner (Some code) ≢ []) }
+{
+    if is_shown(manner, code) {
+        term.put(&code_line(code))
+    } else {
+        Ok(())
+    }
+}
+
 /// Shows the message of an answer, if it has one.
 #[tactic(auto, unfolding(crate::specs::Message::message))]
-fn show_message<T: Terminal>(answer: Answer, term: &mut T) -> Result<(), TerminalFault>
-    ensures puts { Puts (T.screen term.old) (T.screen term.new) (message answer) result }
-    ensures some { OnErr result (message answer ≢ []) }
+fn show_message<T: Terminal>(
+    answer: Answer,
+    manner: Manner,
+    term: &mut T,
+) -> Result<(), TerminalFault>
+    ensures puts { Puts (T.screen term.old) (T.screen term.new) (message manner answer) result }
+    ensures some { OnErr result (message manner answer ≢ []) }
 {
     match answer.code() {
         None => Ok(()),
-        Some(code) => term.put(&code_line(code)),
+        Some(code) => show_code(code, manner, term),
     }
 }
 
 /// Shows the message of what a string was answered, and lets the listener hear of the string.
 fn show_ending<T: Terminal, L: Listens>(
     text: &[u8],
+    begins: u64,
     answered: &Answered,
     session: &Session,
+    settings: Settings,
     term: &mut T,
     listener: &mut L,
 ) -> Result<(), TerminalFault>
-    ensures heard { OnOk result (HasTold (L.hearing listener.old) (L.hearing listener.new)
-        (λ telling. run_lines telling text.now answered.now session.now) (counted session.now)) }
-    ensures puts { Puts (T.screen term.old) (T.screen term.new) (message answered.now.answer) result }
-    ensures some { OnErr result (message answered.now.answer ≢ []) }
+    ensures heard { OnOk result (L.hears listener.old listener.new
+        (Ran text.now begins answered.now settings.bounds session.now)) }
+    ensures puts { Puts (T.screen term.old) (T.screen term.new) (message settings.manner answered.now.answer) result }
+    ensures some { OnErr result (message settings.manner answered.now.answer ≢ []) }
 {
-    if let Err(TerminalFault) = show_message(answered.answer, term) {
+    if let Err(TerminalFault) = show_message(answered.answer, settings.manner, term) {
         return Err(TerminalFault);
     }
-    listener.ran(text, answered, session);
+    listener.ran(text, begins, answered, settings.bounds, session);
     Ok(())
 }
 
 /// Shows the message of a refusal, and lets the listener hear of it.
 fn show_refusal<T: Terminal, L: Listens>(
     answer: Answer,
+    begins: u64,
     session: &Session,
+    manner: Manner,
     term: &mut T,
     listener: &mut L,
 ) -> Result<(), TerminalFault>
-    ensures heard { OnOk result (HasTold (L.hearing listener.old) (L.hearing listener.new)
-        (λ telling. move_lines telling (answer_code answer) session.now) (counted session.now)) }
-    ensures puts { Puts (T.screen term.old) (T.screen term.new) (message answer) result }
-    ensures some { OnErr result (message answer ≢ []) }
+    ensures heard { OnOk result (L.hears listener.old listener.new (Moved begins (answer_code answer) session.now)) }
+    ensures puts { Puts (T.screen term.old) (T.screen term.new) (message manner answer) result }
+    ensures some { OnErr result (message manner answer ≢ []) }
 {
-    if let Err(TerminalFault) = show_message(answer, term) {
+    if let Err(TerminalFault) = show_message(answer, manner, term) {
         return Err(TerminalFault);
     }
-    listener.moved(answer.code(), session);
+    listener.moved(begins, answer.code(), session);
     Ok(())
 }
 
@@ -96,24 +122,25 @@ pub fn show_prompt<T: Terminal>(prompt: bool, term: &mut T) -> Result<(), Termin
 fn repeat<T: Terminal, L: Listens>(
     request: &Request,
     n: u32,
+    begins: u64,
     session: &mut Session,
-    limit: u64,
+    settings: Settings,
     term: &mut T,
     listener: &mut L,
 ) -> Result<(), TerminalFault>
     requires { MovesInHistory request.now }
     ensures { (replies : List Reply)
-        × Repeats limit request.now n (history_of session.old) replies (history_of session.new)
-        × Puts (T.screen term.old) (T.screen term.new) (replies_shown replies) result
-        × OnErr result (replies_shown replies ≢ []) }
+        × Repeats settings.bounds.steps request.now n (history_of session.old) replies (history_of session.new)
+        × Puts (T.screen term.old) (T.screen term.new) (replies_shown settings.manner replies) result
+        × OnErr result (replies_shown settings.manner replies ≢ []) }
 {
     'moves: for _i in 0..n {
-        let answer = session.answer(request, limit, term);
+        let answer = session.answer(request, settings.bounds.steps, term);
         if answer.is_refused() {
-            return show_refusal(answer, session, term, listener);
+            return show_refusal(answer, begins, session, settings.manner, term, listener);
         }
     }
-    listener.moved(None, session);
+    listener.moved(begins, None, session);
     Ok(())
 }
 
@@ -141,19 +168,21 @@ fn run_placed<S: Stop, T: Terminal>(
 /// Runs a text, and shows the message of the answer. With seconds the alarm is set, and may break it off.
 fn run_text<A: Alarm, T: Terminal, L: Listens>(
     text: &[u8],
+    begins: u64,
     session: &mut Session,
-    bounds: Bounds,
+    settings: Settings,
     alarm: &mut A,
     term: &mut T,
     listener: &mut L,
 ) -> Result<(), TerminalFault>
     ensures done { (replies : List Reply)
-        × Does (allowance bounds (HasRung A.answered)) (Run text.now) (history_of session.old) replies (history_of session.new)
-        × Puts (T.screen term.old) (T.screen term.new) (replies_shown replies) result
-        × OnErr result (replies_shown replies ≢ []) }
+        × Does (allowance settings.bounds (HasRung A.answered)) (Run text.now) (history_of session.old) replies (history_of session.new)
+        × Puts (T.screen term.old) (T.screen term.new) (replies_shown settings.manner replies) result
+        × OnErr result (replies_shown settings.manner replies ≢ []) }
     ensures err { OnErr result
         (is_exit (Run text.now) (history_of session.old) (history_of session.new) ≡ false) }
 {
+    let bounds = settings.bounds;
     let answered = if let Some(seconds) = bounds.seconds {
         alarm.set(seconds);
         run_placed(text, session, bounds.steps, alarm, term)
@@ -168,7 +197,7 @@ fn run_text<A: Alarm, T: Terminal, L: Listens>(
     if answered.answer.is_terminal_failure() {
         return Err(TerminalFault);
     }
-    show_ending(text, &answered, session, term, listener)
+    show_ending(text, begins, &answered, session, settings, term, listener)
 }
 
 /// Whether it was a run that made the session done.
@@ -179,9 +208,10 @@ fn exits(asked: &Asked, was_done: bool, is_done: bool) -> bool
 }
 
 /// Does what a text asks and shows its answers, and then a star unless a run has made the session done. Says how the serving ends,
-/// if it does.
+/// if it does. The text begins after so many bytes of the stream.
 pub fn do_exchange<A: Alarm, T: Terminal, L: Listens>(
     asked: &Asked,
+    begins: u64,
     session: &mut Session,
     settings: Settings,
     alarm: &mut A,
@@ -191,22 +221,43 @@ pub fn do_exchange<A: Alarm, T: Terminal, L: Listens>(
     ensures { (exchange : Exchange)
         × IsExchange (allowance settings.bounds (HasRung A.answered)) (value_of asked.now) (history_of session.old)
         (history_of session.new) exchange
-        × ExchangeEnds (Shows (T.screen term.old) (T.screen term.new)) settings.prompt exchange result }
+        × ExchangeEnds (Shows (T.screen term.old) (T.screen term.new)) settings.manner exchange result }
 {
     let was_done = session.editor().done();
-    let bounds = settings.bounds;
     let shown = match asked {
-        Asked::Run(text) => run_text(text.as_slice(), session, bounds, alarm, term, listener),
-        Asked::Undo(n) => repeat(&Request::Undo, *n, session, bounds.steps, term, listener),
-        Asked::Redo(n) => repeat(&Request::Redo, *n, session, bounds.steps, term, listener),
-        Asked::Rewind(n) => repeat(
-            &Request::Rewind(u64::from(*n)),
-            1,
+        Asked::Run(text) => {
+            run_text(
+                text.as_slice(),
+                begins,
+                session,
+                settings,
+                alarm,
+                term,
+                listener,
+            )
+        }
+        Asked::Undo(n) => repeat(
+            &Request::Undo,
+            *n,
+            begins,
             session,
-            bounds.steps,
+            settings,
             term,
             listener,
         ),
+        Asked::Redo(n) => repeat(
+            &Request::Redo,
+            *n,
+            begins,
+            session,
+            settings,
+            term,
+            listener,
+        ),
+        Asked::Rewind(n) => {
+            let rewind = Request::Rewind(u64::from(*n));
+            repeat(&rewind, 1, begins, session, settings, term, listener)
+        }
     };
     if let Err(TerminalFault) = shown {
         return Some(Served::ShowFault);
@@ -214,7 +265,7 @@ pub fn do_exchange<A: Alarm, T: Terminal, L: Listens>(
     if exits(asked, was_done, session.editor().done()) {
         return Some(Served::Exit);
     }
-    if let Err(TerminalFault) = show_prompt(settings.prompt, term) {
+    if let Err(TerminalFault) = show_prompt(settings.manner.prompt, term) {
         return Some(Served::ShowFault);
     }
     None

@@ -4,15 +4,16 @@ ghost use Rattle.std.specs.List.{list_all};
 ghost use Rattle.std.specs.String.{string_bytes};
 ghost use Rattle.teco_core.specs.Ascii.{is_filler};
 ghost use Rattle.teco_serve.specs.Ending.{output_of};
-ghost use Rattle.teco_serve.specs.Explaining.{after_what, end_line, exit_line, exits_first, history_line, is_bare_exit, is_turn, left_line, limits_after, move_lines, next_number, place_had, refusal_line, run_lines, steps_line, steps_told, stop_line};
+ghost use Rattle.teco_serve.specs.Explaining.{after_what, anew, beginning_of, counted, end_line, exit_line, exits_first, history_line, is_bare_exit, is_turn, left_line, limits_after, move_lines, next_number, place_had, refusal_line, run_lines, seconds_after, steps_line, steps_told, stop_line};
 ghost use Rattle.teco_session.specs.Answers.{answer_code, outcome_of};
 
+use crate::alarm::Bounds;
 use crate::fate::{Fate, output_name};
 use crate::served::Served;
 use std::alloc::Global;
 use std::fmt::Write;
 use teco_cli::Line;
-use teco_core::{Code, NoMemory, is_filler};
+use teco_core::{Code, NoMemory, TEXT_LIMIT, is_filler};
 use teco_exec::Outcome;
 use teco_messages::{Limits, show_code, show_stop};
 use teco_session::{Answer, Answered, Changes, Session};
@@ -26,8 +27,6 @@ const COPIED: &str = "EX came before any page was read: the input is copied\n";
 pub struct Telling {
     /// Whether what was done for each text is told too.
     pub counts: bool,
-    /// How large the limits are.
-    pub limits: Limits,
     /// How many texts were done.
     pub texts: u64,
     /// How much of the input was read when the last one was done.
@@ -41,8 +40,43 @@ pub fn next_number(telling: Telling) -> u64
     telling.texts.saturating_add(1)
 }
 
+impl Telling {
+    /// Before the first text: what the line wants told.
+    pub fn new(line: &Line) -> Telling
+        ensures { result ≡ beginning_of line.now }
+    {
+        Telling {
+            counts: line.prompt,
+            texts: 0,
+            place: 0,
+        }
+    }
+
+    /// The same once one more text was done.
+    pub fn counted(self, session: &Session) -> Telling
+        ensures { result ≡ counted session.now self }
+    {
+        Telling {
+            counts: self.counts,
+            texts: next_number(self),
+            place: session.editor().place(),
+        }
+    }
+
+    /// The same before the first text of the next input.
+    pub fn anew(self) -> Telling
+        ensures { result ≡ anew self }
+    {
+        Telling {
+            counts: self.counts,
+            texts: 0,
+            place: 0,
+        }
+    }
+}
+
 /// How a string ended, if one was run.
-fn outcome_of(answer: Answer) -> Option<Outcome>
+pub fn outcome_of(answer: Answer) -> Option<Outcome>
     ensures { result ≡ outcome_of answer }
 {
     match answer {
@@ -51,16 +85,24 @@ fn outcome_of(answer: Answer) -> Option<Outcome>
     }
 }
 
-/// The limits that are told of a string: seconds only if it was broken off, since it had steps left.
-fn limits_after(limits: Limits, ended: Option<Outcome>) -> Limits
-    ensures { result ≡ limits_after limits ended }
+/// The seconds that are told of a string: those of one that was broken off, since it had steps left.
+fn seconds_after(bounds: Bounds, ended: Option<Outcome>) -> Option<u64>
+    ensures { result ≡ seconds_after bounds ended }
 {
     match ended {
-        Some(outcome) if outcome.steps < limits.steps => limits,
-        _ => Limits {
-            seconds: None,
-            ..limits
-        },
+        Some(outcome) if outcome.steps < bounds.steps => bounds.seconds,
+        _ => None,
+    }
+}
+
+/// How large the limits are of a string that ran within these bounds.
+pub fn limits_after(bounds: Bounds, ended: Option<Outcome>) -> Limits
+    ensures { result ≡ limits_after bounds ended }
+{
+    Limits {
+        steps: bounds.steps,
+        seconds: seconds_after(bounds, ended),
+        bytes: TEXT_LIMIT as u64,
     }
 }
 
@@ -68,13 +110,13 @@ fn limits_after(limits: Limits, ended: Option<Outcome>) -> Limits
 fn tell_stop(
     out: &mut String,
     n: u64,
-    limits: Limits,
+    bounds: Bounds,
     text: &[u8],
     answered: &Answered,
     session: &Session,
 ) -> Result<(), NoMemory>
     ensures { OnOk result (string_bytes out.new ≡ string_bytes out.old
-        ++ stop_line n limits text.now answered.now session.now (answer_code answered.now.answer)) }
+        ++ stop_line n bounds text.now answered.now session.now (answer_code answered.now.answer)) }
 {
     let Some(code) = answered.answer.code() else {
         return Ok(());
@@ -83,7 +125,7 @@ fn tell_stop(
         Ok(place) => place.as_ref(),
         Err(NoMemory) => None,
     };
-    let limits = limits_after(limits, outcome_of(answered.answer));
+    let limits = limits_after(bounds, outcome_of(answered.answer));
     let registers = session.editor().registers();
     write!(out, "string {n}")?;
     show_stop(out, place, registers, text, code, Some(limits))?;
@@ -168,16 +210,17 @@ fn tell_exit(
 pub fn lines_of_run(
     alloc: Global,
     telling: Telling,
+    bounds: Bounds,
     text: &[u8],
     answered: &Answered,
     session: &Session,
 ) -> Result<String, NoMemory>
-    ensures { IfOk result (λ lines. string_bytes lines ≡ run_lines telling text.now answered.now session.now) }
+    ensures { IfOk result (λ lines. string_bytes lines ≡ run_lines telling bounds text.now answered.now session.now) }
 {
     let n = next_number(telling);
     let ended = outcome_of(answered.answer);
     let mut lines = String::new(alloc);
-    tell_stop(&mut lines, n, telling.limits, text, answered, session)?;
+    tell_stop(&mut lines, n, bounds, text, answered, session)?;
     tell_steps(&mut lines, n, telling.counts, ended)?;
     tell_exit(&mut lines, telling.place, session, ended)?;
     Ok(lines)
@@ -235,7 +278,7 @@ fn after_what(broken_off: bool) -> &'static str
 }
 
 /// Whether bytes are fillers alone.
-fn are_fillers(bytes: &[u8]) -> bool
+pub fn are_fillers(bytes: &[u8]) -> bool
     ensures { result ≡ list_all is_filler bytes.now }
 {
     bytes.iter().all(|byte| is_filler(*byte))

@@ -19,9 +19,11 @@ use teco_session::Session;
 /// The most bytes of a piece.
 const PIECE: usize = 4096;
 
-/// Does what each held text asks, unless that ends the serving; says how the serving ends, if it does.
+/// Does what each held text asks, unless that ends the serving; says how the serving ends, if it does. The held bytes are the last of as
+/// many as were fed.
 fn serve_held<A: Alarm, T: Terminal, L: Listens>(
     splitter: &mut Splitter,
+    fed: u64,
     session: &mut Session,
     settings: Settings,
     alarm: &mut A,
@@ -32,16 +34,17 @@ fn serve_held<A: Alarm, T: Terminal, L: Listens>(
         × Exchanges (allowance settings.bounds (HasRung A.answered)) (history_of session.old) exchanges (history_of session.new)
         × CutsOff splitter.old exchanges splitter.new
         × Emptied result splitter.new
-        × HeldEnds (Shows (T.screen term.old) (T.screen term.new)) settings.prompt exchanges result }
+        × HeldEnds (Shows (T.screen term.old) (T.screen term.new)) settings.manner exchanges result }
 {
     'held: loop {
+        let begins = fed.saturating_sub(splitter.held().len() as u64);
         let Ok(next) = splitter.next() else {
             return Some(Served::NoMemory);
         };
         let Some(asked) = next else {
             return None;
         };
-        let ended = do_exchange(&asked, session, settings, alarm, term, listener);
+        let ended = do_exchange(&asked, begins, session, settings, alarm, term, listener);
         if let Some(served) = ended {
             return Some(served);
         }
@@ -62,17 +65,18 @@ pub fn serve<S: Source, A: Alarm, T: Terminal, L: Listens>(
     term: &mut T,
     listener: &mut L,
 ) -> Served
-    ensures { Serves (allowance settings.bounds (HasRung A.answered)) settings.prompt
+    ensures { Serves (allowance settings.bounds (HasRung A.answered)) settings.manner
         (Gives S.coming S.bound S.failures source.old source.new)
         (HasEnded (S.coming source.new) (S.ended source.new))
         (Shows (T.screen term.old) (T.screen term.new))
         (history_of session.old) (history_of session.new) result }
 {
-    if let Err(TerminalFault) = show_prompt(settings.prompt, term) {
+    if let Err(TerminalFault) = show_prompt(settings.manner.prompt, term) {
         return Served::ShowFault;
     }
     let mut splitter = Splitter::new(alloc);
     let mut piece = [0; PIECE];
+    let mut fed: u64 = 0;
     'pieces: loop {
         let Ok(n) = source.read(&mut piece) else {
             return Served::ReadFault;
@@ -84,7 +88,8 @@ pub fn serve<S: Source, A: Alarm, T: Terminal, L: Listens>(
         if splitter.feed(&piece[..n]).is_err() {
             return Served::NoMemory;
         }
-        let ended = serve_held(&mut splitter, session, settings, alarm, term, listener);
+        fed = fed.saturating_add(n as u64);
+        let ended = serve_held(&mut splitter, fed, session, settings, alarm, term, listener);
         if let Some(served) = ended {
             listener.left(splitter.held(), true);
             return served;

@@ -133,7 +133,7 @@ fn a_string_is_undone(alloc: Global) -> bool {
 /// teco_messages: a code in a few words.
 fn a_code_is_told(alloc: Global) -> bool {
     let mut out = String::new(alloc);
-    show_code(&mut out, Code::Srh).is_ok() && is(&out, ": SRH, search failed")
+    show_code(&mut out, Code::Srh).is_ok() && is(&out, ": SRH, the search found nothing")
 }
 
 /// teco_source: a margin, a comment and the end of a line are layout, and `$` is ESC.

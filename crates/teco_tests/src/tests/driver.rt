@@ -1,6 +1,6 @@
 //! Of teco_driver: its parts, and runs of the whole program over files in memory.
 use super::bytes::{Screen, are_there, first_of, is, is_typed, joined, screen_of, wide_screen};
-use super::line_commands::{checked, explained, shown, sources};
+use super::line_commands::{checked, explained, manners, shown, sources};
 use super::rows::{Cells, Rule, all_hold, cells_of, halves_at, number_or};
 use super::tecol::runs;
 use std::alloc::Global;
@@ -20,6 +20,7 @@ mod disk;
 mod ending;
 mod input;
 mod inputs;
+mod limits;
 mod line;
 mod reader_source;
 mod serving;
@@ -233,8 +234,9 @@ fn table(at: usize) -> &'static str {
         2 => sources::ROWS,
         3 => checked::ROWS,
         4 => explained::ROWS,
-        5 => shown::ROWS,
-        6 => runs::ROWS,
+        5 => manners::ROWS,
+        6 => shown::ROWS,
+        7 => runs::ROWS,
         _ => "",
     }
 }
@@ -244,4 +246,14 @@ fn runs_over_files(rt: HostRuntime) {
     for at in 0..32 {
         all_hold(&rt, rt.alloc(), &Runs, table(at));
     }
+}
+
+#[test]
+fn strings_of_options_have_steps_by_their_input(rt: HostRuntime) {
+    all_hold(&rt, rt.alloc(), &Runs, limits::BY_OPTIONS);
+}
+
+#[test]
+fn a_limit_is_told_as_it_holds(rt: HostRuntime) {
+    all_hold(&rt, rt.alloc(), &Runs, limits::AS_TOLD);
 }

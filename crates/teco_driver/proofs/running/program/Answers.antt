@@ -3,7 +3,7 @@ use Rattle.teco_serve.specs.Exchange.{HasRung}
 use Rattle.teco_driver.specs.Runs.{RunsOrChecks}
 use Rattle.teco_fs.specs.Seen.{disk_seen}
 use Rattle.teco_driver.specs.Given.{host_view}
-use Rattle.teco_driver.proofs.Runs.{same_explain}
+use Rattle.teco_driver.proofs.Runs.{same_notes}
 use Rattle.teco_driver.proofs.running.program.Goals as goal
 
 pub returns-in-Ok : goal.returns-in-Ok
@@ -18,7 +18,7 @@ returns-in-Ok g c = record {
             (sym c.from.ensures) c.run_over.ensures.runs;
       });
   silent = λ line is off.
-      c.run_over.ensures.silent (same_explain c.args.words c.in-Ok.line line c.in-Ok.ensures.line is off);
+      c.run_over.ensures.silent (same_notes c.args.words c.in-Ok.line line c.in-Ok.ensures.line is off);
 }
 
 pub run_over-requires : goal.run_over-requires

@@ -22,7 +22,7 @@ rewound limit old replies new same = subst (λ (k : ℕ). Repeats limit (request
 
 -- what was done, whichever way it was asked
 done : (g : given.Over) (c : Joined-asked g) {shown : Result (Unit {0}) TerminalFault} → c.match-asked.shown ≡ shown
-    → IsDone (allowance c.args.settings.bounds (HasRung g.A.Stop.answered)) (value_of c.args.asked.now) (history_of c.args.session.now) (history_of c.match-asked.session)
+    → IsDone (allowance c.args.settings.bounds (HasRung g.A.Stop.answered)) c.args.settings.manner (value_of c.args.asked.now) (history_of c.args.session.now) (history_of c.match-asked.session)
     (g.T.Terminal.screen c.args.term.now) (g.T.Terminal.screen c.match-asked.term) shown
 done g c is = rw (← is) (elim c.match-asked.branch [
   | in-Run w ↦
@@ -46,12 +46,12 @@ pub returns-in-Err : goal.returns-in-Err
 returns-in-Err g c =
     let d = done g (goal.at.returns-in-Err g c).Joined-asked c.in-Err.is in
     let x : Exchange = record { asked = value_of c.args.asked.now; before = history_of c.args.session.now; replies = d.replies; after = history_of c.match-asked.session } in
-    let rest = if exits x then [] else star c.args.settings.prompt in (
+    let rest = if exits x then [] else star c.args.settings.manner.prompt in (
       x,
       record { asked_is = refl; before_is = refl; after_is = refl; does = d.does },
       (
         d.no_exit,
-        record { some = nonempty_before (replies_shown d.replies) rest d.some; front = d.puts.0; beginning = front-longer d.puts.0 (replies_shown d.replies) rest d.puts.1; shows = d.puts.2 },
+        record { some = nonempty_before (replies_shown c.args.settings.manner d.replies) rest d.some; front = d.puts.0; beginning = front-longer d.puts.0 (replies_shown c.args.settings.manner d.replies) rest d.puts.1; shows = d.puts.2 },
       ),
     )
 
@@ -67,7 +67,7 @@ returns-then-exits g c =
       record { asked_is = refl; before_is = refl; after_is = refl; does = d.does },
       (
         ends,
-        subst (λ l. Shows (g.T.Terminal.screen c.args.term.now) (g.T.Terminal.screen c.match-asked.term) l false) (sym (shown_exit c.args.settings.prompt x ends)) d.puts,
+        subst (λ l. Shows (g.T.Terminal.screen c.args.term.now) (g.T.Terminal.screen c.match-asked.term) l false) (sym (shown_exit c.args.settings.manner x ends)) d.puts,
       ),
     )
 
@@ -80,15 +80,15 @@ returns-in-Err-show_prompt g c =
     let now : c.done.result ≡ (present x.after).is_done = c.done.ensures ∙ ap (λ s. s.is_done) c.editor-2.ensures.present in
     let same : c.exits.result ≡ exits x = exits_from x c.exits.result c.done-was_done.result c.done.result c.exits.ensures was now in
     let on : exits x ≡ false = sym same ∙ c.if-exits.false in
-    let shown = shown_on c.args.settings.prompt x on in (
+    let shown = shown_on c.args.settings.manner x on in (
       x,
       record { asked_is = refl; before_is = refl; after_is = refl; does = d.does },
       (
         on,
         subst (λ l. BreaksOff (Shows (g.T.Terminal.screen c.args.term.now) (g.T.Terminal.screen c.show_prompt.new.term)) [] l) (sym shown) (record {
-          some = nonempty_after (replies_shown d.replies) (star c.args.settings.prompt) c.in-Err-show_prompt.ensures.some;
-          front = replies_shown d.replies ++ p.0;
-          beginning = front-after (replies_shown d.replies) p.0 (star c.args.settings.prompt) p.1;
+          some = nonempty_after (replies_shown c.args.settings.manner d.replies) (star c.args.settings.manner.prompt) c.in-Err-show_prompt.ensures.some;
+          front = replies_shown c.args.settings.manner d.replies ++ p.0;
+          beginning = front-after (replies_shown c.args.settings.manner d.replies) p.0 (star c.args.settings.manner.prompt) p.1;
           shows = Shows-trans d.puts p.2;
         }),
       ),
@@ -107,6 +107,6 @@ returns g c =
       record { asked_is = refl; before_is = refl; after_is = refl; does = d.does },
       (
         on,
-        subst (λ l. Shows (g.T.Terminal.screen c.args.term.now) (g.T.Terminal.screen c.show_prompt.new.term) l false) (sym (shown_on c.args.settings.prompt x on)) (Shows-trans d.puts p),
+        subst (λ l. Shows (g.T.Terminal.screen c.args.term.now) (g.T.Terminal.screen c.show_prompt.new.term) l false) (sym (shown_on c.args.settings.manner x on)) (Shows-trans d.puts p),
       ),
     )

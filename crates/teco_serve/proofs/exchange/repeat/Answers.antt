@@ -13,7 +13,7 @@ use Rattle.teco_serve.proofs.exchange.repeat.Goals as goal
 pub moves-init : goal.moves-init
 moves-init g c =
     let all : c.args.n - 0 ≡ c.args.n = omega arith in
-    record { shown = Shows-nil _; moved = ([], refl, λ rest new p. subst (λ k. Repeats c.args.limit c.args.request.now k (history_of c.args.session.now) rest new) all p) }
+    record { shown = Shows-nil _; moved = ([], refl, λ rest new p. subst (λ k. Repeats c.args.settings.bounds.steps c.args.request.now k (history_of c.args.session.now) rest new) all p) }
 
 pub returns-then-is_refused : goal.returns-then-is_refused
 returns-then-is_refused g c =
@@ -21,16 +21,16 @@ returns-then-is_refused g c =
     let s = c.answer-answer.ensures in
     let reply : Reply = record { answer = c.answer-answer.result; typed = s.0 } in
     let new = history_of c.answer-answer.new.self in
-    let quiet = request_quiet c.args.limit (history_of c.moves.session) new c.args.request.now reply c.requires s.1 in
+    let quiet = request_quiet c.args.settings.manner c.args.settings.bounds.steps (history_of c.moves.session) new c.args.request.now reply c.requires s.1 in
     let refused : is_refused reply.answer ≡ true = sym c.is_refused.ensures ∙ c.if-is_refused.true in
-    let last = Repeats-refused c.args.limit c.args.request.now (c.args.n - (c.moves._i + 1)) (history_of c.moves.session) new reply s.1 refused in
-    let one = replies_shown-one m.0 reply m.1 quiet.typed_none in
+    let last = Repeats-refused c.args.settings.bounds.steps c.args.request.now (c.args.n - (c.moves._i + 1)) (history_of c.moves.session) new reply s.1 refused in
+    let one = replies_shown-one c.args.settings.manner m.0 reply m.1 quiet.typed_none in
     let before = subst (λ b. Shows (g.T.Terminal.screen c.moves.term) (g.T.Terminal.screen c.answer-answer.new.term) s.0 b) quiet.well s.2 in
     let silent = subst (λ l. Shows (g.T.Terminal.screen c.moves.term) (g.T.Terminal.screen c.answer-answer.new.term) l false) quiet.typed_none before in (
       m.0 ++ reply ∷ [],
-      m.2 (reply ∷ []) new (subst (λ k. Repeats c.args.limit c.args.request.now k (history_of c.moves.session) (reply ∷ []) new) (sym (less_one c.args.n c.moves._i (omega arith))) last),
+      m.2 (reply ∷ []) new (subst (λ k. Repeats c.args.settings.bounds.steps c.args.request.now k (history_of c.moves.session) (reply ∷ []) new) (sym (less_one c.args.n c.moves._i (omega arith))) last),
       subst (λ l. Puts (g.T.Terminal.screen c.args.term.now) (g.T.Terminal.screen c.show_refusal.new.term) l c.show_refusal.result) (sym one)
-          (Puts-after (g.T.Terminal.screen c.show_refusal.new.term) (message reply.answer) c.show_refusal.result (Shows-trans c.moves.invariant.shown silent) c.show_refusal.ensures.puts),
+          (Puts-after (g.T.Terminal.screen c.show_refusal.new.term) (message c.args.settings.manner reply.answer) c.show_refusal.result (Shows-trans c.moves.invariant.shown silent) c.show_refusal.ensures.puts),
       subst (λ l. OnErr c.show_refusal.result (l ≢ [])) (sym one) c.show_refusal.ensures.some,
     )
 
@@ -40,7 +40,7 @@ moves-preserved g c =
     let s = c.answer-answer.ensures in
     let reply : Reply = record { answer = c.answer-answer.result; typed = s.0 } in
     let mid = history_of c.answer-answer.new.self in
-    let quiet = request_quiet c.args.limit (history_of c.moves.session) mid c.args.request.now reply c.requires s.1 in
+    let quiet = request_quiet c.args.settings.manner c.args.settings.bounds.steps (history_of c.moves.session) mid c.args.request.now reply c.requires s.1 in
     let on : is_refused reply.answer ≡ false = sym c.is_refused.ensures ∙ c.if-is_refused.false in
     let before = subst (λ b. Shows (g.T.Terminal.screen c.moves.term) (g.T.Terminal.screen c.answer-answer.new.term) s.0 b) quiet.well s.2 in
     let silent = subst (λ l. Shows (g.T.Terminal.screen c.moves.term) (g.T.Terminal.screen c.answer-answer.new.term) l false) quiet.typed_none before in
@@ -48,11 +48,11 @@ moves-preserved g c =
       shown = Shows-trans c.moves.invariant.shown silent;
       moved = (
         m.0 ++ reply ∷ [],
-        replies_shown-one m.0 reply m.1 quiet.typed_none ∙ quiet.silent on,
+        replies_shown-one c.args.settings.manner m.0 reply m.1 quiet.typed_none ∙ quiet.silent on,
         λ rest new p.
-            subst (λ l. Repeats c.args.limit c.args.request.now c.args.n (history_of c.args.session.now) l new) (sym (append_assoc m.0 (reply ∷ []) rest))
-            (m.2 (reply ∷ rest) new (subst (λ k. Repeats c.args.limit c.args.request.now k (history_of c.moves.session) (reply ∷ rest) new) (sym (less_one c.args.n c.moves._i (omega arith)))
-            (Repeats-on c.args.limit c.args.request.now (c.args.n - (c.moves._i + 1)) (history_of c.moves.session) mid new reply rest s.1 on p))),
+            subst (λ l. Repeats c.args.settings.bounds.steps c.args.request.now c.args.n (history_of c.args.session.now) l new) (sym (append_assoc m.0 (reply ∷ []) rest))
+            (m.2 (reply ∷ rest) new (subst (λ k. Repeats c.args.settings.bounds.steps c.args.request.now k (history_of c.moves.session) (reply ∷ rest) new) (sym (less_one c.args.n c.moves._i (omega arith)))
+            (Repeats-on c.args.settings.bounds.steps c.args.request.now (c.args.n - (c.moves._i + 1)) (history_of c.moves.session) mid new reply rest s.1 on p))),
       );
     }
 
@@ -61,8 +61,8 @@ returns g c =
     let m = c.moves.invariant.moved in
     let none : 0 ≡ c.args.n - c.moves._i = omega arith in (
       m.0,
-      subst (λ l. Repeats c.args.limit c.args.request.now c.args.n (history_of c.args.session.now) l (history_of c.moves.session)) (append-nil m.0)
-          (m.2 [] (history_of c.moves.session) (subst (λ k. Repeats c.args.limit c.args.request.now k (history_of c.moves.session) [] (history_of c.moves.session)) none (refl, refl))),
+      subst (λ l. Repeats c.args.settings.bounds.steps c.args.request.now c.args.n (history_of c.args.session.now) l (history_of c.moves.session)) (append-nil m.0)
+          (m.2 [] (history_of c.moves.session) (subst (λ k. Repeats c.args.settings.bounds.steps c.args.request.now k (history_of c.moves.session) [] (history_of c.moves.session)) none (refl, refl))),
       subst (λ l. Shows (g.T.Terminal.screen c.args.term.now) (g.T.Terminal.screen c.moves.term) l false) (sym m.1) c.moves.invariant.shown,
       tt,
     )

@@ -10,6 +10,6 @@ use Rattle.teco_serve.proofs.exchange.repeat.Given as goal
 abbrev pub invariant-moves : goal.invariant-moves
 invariant-moves g l = record {
   shown : Shows (g.T.Terminal.screen l.initial.term) (g.T.Terminal.screen l.term) [] false;
-  moved : (replies : List Reply) × (replies_shown replies ≡ [])
-      × ((rest : List Reply) (new : History) → Repeats l.limit l.request (l.n - l._i) (history_of l.session) rest new → Repeats l.limit l.request l.n (history_of l.initial.session) (replies ++ rest) new);
+  moved : (replies : List Reply) × (replies_shown l.settings.manner replies ≡ [])
+      × ((rest : List Reply) (new : History) → Repeats l.settings.bounds.steps l.request (l.n - l._i) (history_of l.session) rest new → Repeats l.settings.bounds.steps l.request l.n (history_of l.initial.session) (replies ++ rest) new);
 }

@@ -14,24 +14,24 @@ use Rattle.teco_serve.proofs.exchange.run_text.Goals as goal
 use Rattle.teco_serve.proofs.exchange.run_text.Goals.{Joined-bounds, in-Some, in_default+then-wants_place, in_default+else-wants_place}
 
 ran : (g : given.Over) (c : Joined-bounds g)
-    → HasRun (allowance c.args.bounds (HasRung g.A.Stop.answered)) c.args.text.now (history_of c.args.session.now) (history_of c.match-bounds.session)
+    → HasRun (allowance c.args.settings.bounds (HasRung g.A.Stop.answered)) c.args.text.now (history_of c.args.session.now) (history_of c.match-bounds.session)
     (g.T.Terminal.screen c.args.term.now) (g.T.Terminal.screen c.match-bounds.term) c.match-bounds.answered.answer
 ran g c = elim c.match-bounds.branch [
   | in-Some w ↦
       let run = w.run_placed-answered.ensures.run in
       let step = run.so.step in
-      let some : c.args.bounds.seconds ≡ Some w.in-Some.seconds = search rules in
+      let some : c.args.settings.bounds.seconds ≡ Some w.in-Some.seconds = search rules in
       let answer = w.run_placed-answered.result.answer in
       rw (w.session-is, w.term-is, w.answered-is) (record {
         typed = step.0;
-        ran = runs_allowed g.A.Stop.answered _ w.run_placed-answered.new.stop c.args.bounds w.in-Some.seconds (string_outcome answer)
+        ran = runs_allowed g.A.Stop.answered _ w.run_placed-answered.new.stop c.args.settings.bounds w.in-Some.seconds (string_outcome answer)
             (λ limit. RunStep limit (history_of c.args.session.now) c.args.text.now answer step.0 (history_of w.run_placed-answered.new.session))
             run.under some w.run_placed-answered.ensures.still (record { span = search rules; fresh = search rules }) run.within run.stays step.1;
         shows = step.2;
         exit = run.so.exit;
       })
   | in_default+then-wants_place w ↦
-      let run = unbroken c.args.bounds.steps _ _ w.run_placed.ensures.run in
+      let run = unbroken c.args.settings.bounds.steps _ _ w.run_placed.ensures.run in
       rw (w.session-is, w.term-is, w.answered-is) (record { typed = run.step.0; ran = inl run.step.1; shows = run.step.2; exit = run.exit })
   | in_default+else-wants_place w ↦
       let run = w.run.ensures in
@@ -47,10 +47,10 @@ returns-then-is_terminal_failure g c =
       done = (
         reply ∷ [],
         (reply, refl, run.ran),
-        (run.typed, (message reply.answer, append-nil (run.typed ++ message reply.answer)), subst (λ b. Shows (g.T.Terminal.screen c.args.term.now) (g.T.Terminal.screen c.match-bounds.term) run.typed b) failed run.shows),
-        message-some reply (failure-some reply.answer failed),
+        (run.typed, (message c.args.settings.manner reply.answer, append-nil (run.typed ++ message c.args.settings.manner reply.answer)), subst (λ b. Shows (g.T.Terminal.screen c.args.term.now) (g.T.Terminal.screen c.match-bounds.term) run.typed b) failed run.shows),
+        message-some c.args.settings.manner reply (failure-some c.args.settings.manner reply.answer failed),
       );
-      err = message-no_exit c.args.text.now (history_of c.args.session.now) (history_of c.match-bounds.session) reply.answer (failure-some reply.answer failed) run.exit;
+      err = message-no_exit c.args.settings.manner c.args.text.now (history_of c.args.session.now) (history_of c.match-bounds.session) reply.answer (failure-some c.args.settings.manner reply.answer failed) run.exit;
     }
 
 pub returns : goal.returns
@@ -62,10 +62,10 @@ returns g c =
       done = (
         reply ∷ [],
         (reply, refl, run.ran),
-        subst (λ l. Puts (g.T.Terminal.screen c.args.term.now) (g.T.Terminal.screen c.show_ending.new.term) l c.show_ending.result) (sym (append-nil (run.typed ++ message reply.answer)))
-            (Puts-after (g.T.Terminal.screen c.show_ending.new.term) (message reply.answer) c.show_ending.result
+        subst (λ l. Puts (g.T.Terminal.screen c.args.term.now) (g.T.Terminal.screen c.show_ending.new.term) l c.show_ending.result) (sym (append-nil (run.typed ++ message c.args.settings.manner reply.answer)))
+            (Puts-after (g.T.Terminal.screen c.show_ending.new.term) (message c.args.settings.manner reply.answer) c.show_ending.result
             (subst (λ b. Shows (g.T.Terminal.screen c.args.term.now) (g.T.Terminal.screen c.match-bounds.term) run.typed b) well run.shows) c.show_ending.ensures.puts),
-        on_err_weaker c.show_ending.result (message-some reply) c.show_ending.ensures.some,
+        on_err_weaker c.show_ending.result (message-some c.args.settings.manner reply) c.show_ending.ensures.some,
       );
-      err = on_err_weaker c.show_ending.result (λ some. message-no_exit c.args.text.now (history_of c.args.session.now) (history_of c.match-bounds.session) reply.answer some run.exit) c.show_ending.ensures.some;
+      err = on_err_weaker c.show_ending.result (λ some. message-no_exit c.args.settings.manner c.args.text.now (history_of c.args.session.now) (history_of c.match-bounds.session) reply.answer some run.exit) c.show_ending.ensures.some;
     }

@@ -42,7 +42,7 @@ returns-in-Err g c =
       exit = tt;
       shown = record {
         before = [];
-        last = star c.args.settings.prompt;
+        last = star c.args.settings.manner.prompt;
         parts = inl (refl, refl, refl);
         breaks = record { some = c.in-Err.ensures.some; front = e.0; beginning = e.1; shows = e.2 };
       };
@@ -57,7 +57,7 @@ pieces-init g c = (
   CutsOff-none _ c.new-splitter.ensures,
   ap texts_of c.new-splitter.ensures,
   tt,
-  subst (λ l. Shows (g.T.Terminal.screen c.args.term.now) (g.T.Terminal.screen c.show_prompt.new.term) l false) (sym (append-nil (star c.args.settings.prompt))) c.in_default.ensures.puts,
+  subst (λ l. Shows (g.T.Terminal.screen c.args.term.now) (g.T.Terminal.screen c.show_prompt.new.term) l false) (sym (append-nil (star c.args.settings.manner.prompt))) c.in_default.ensures.puts,
 )
 
 pub returns-in_default-read : goal.returns-in_default-read
@@ -116,7 +116,7 @@ returns-in-Some g c =
     let fed : c.feed.new.self ≡ c.pieces.splitter ++ piece = no_error {P = c.feed.new.self ≡ c.pieces.splitter ++ piece} c.feed.result (sym c.is_err.ensures.value ∙ c.if-is_err.false) c.feed.ensures.ok in
     let cut = CutsOff-append bytes c.feed.new.self c.serve_held-ended.new.splitter inv.1 d.0 (CutsOff-fed inv.0 c.pieces.splitter piece c.feed.new.self inv.1 inv.4 fed) d.2 in
     let joins = Shows-joins (g.T.Terminal.screen c.args.term.now) (g.T.Terminal.screen c.pieces.term) (g.T.Terminal.screen c.serve_held-ended.new.term) in
-    let ends = ends_from _ _ _ joins c.args.settings.prompt inv.1 inv.6 d.0 c.in-Some.served inv.7 d.4 in
+    let ends = ends_from _ _ _ joins c.args.settings.manner inv.1 inv.6 d.0 c.in-Some.served inv.7 d.4 in
     record {
       bytes = bytes;
       read = subst (λ b. Gives g.S.Source.coming g.S.Source.bound g.S.Source.failures c.args.source.now c.read.new.self bytes b) (sym ends.read) (Gives-more inv.2 c.in-Ok.ensures.ok);
@@ -145,5 +145,5 @@ pieces-preserved g c =
       cut,
       d.3,
       GoOn-append inv.1 d.0 inv.6 d.4.0,
-      held_shows _ _ _ joins c.args.settings.prompt inv.1 inv.6 d.0 inv.7 d.4.1,
+      held_shows _ _ _ joins c.args.settings.manner inv.1 inv.6 d.0 inv.7 d.4.1,
     )

@@ -12,7 +12,7 @@ abbrev pub invariant-pieces : goal.invariant-pieces
 invariant-pieces g l =
     (bytes : List ℕ) × (exchanges : List Exchange) × Gives g.S.Source.coming g.S.Source.bound g.S.Source.failures l.fn.source l.source bytes false
     × Exchanges (allowance l.settings.bounds (HasRung g.A.Stop.answered)) (history_of l.fn.session) exchanges (history_of l.session) × CutsOff bytes exchanges l.splitter × (texts_of l.splitter ≡ []) × GoOn exchanges
-    × Shows (g.T.Terminal.screen l.fn.term) (g.T.Terminal.screen l.term) (all_shown l.settings.prompt exchanges) false
+    × Shows (g.T.Terminal.screen l.fn.term) (g.T.Terminal.screen l.term) (all_shown l.settings.manner exchanges) false
 
 abbrev pub decreases-pieces : goal.decreases-pieces
 decreases-pieces g l = g.S.Source.bound l.source

@@ -14,7 +14,7 @@ returns-in-Some-ended g c =
     let first : AsksFirst c.held.splitter (Some c.in-Some.asked) c.next.new.self = rw c.in-Some.is at c.in-Ok.ensures.first in
     let more = exchange_more (allowance c.args.settings.bounds (HasRung g.A.Stop.answered)) _ _ (history_of c.do_exchange-ended.new.session) _ _ _ inv.0 d.0 c.in-Some.asked inv.1 inv.2 first d.1 in
     let joins = Shows-joins (g.T.Terminal.screen c.args.term.now) (g.T.Terminal.screen c.held.term) (g.T.Terminal.screen c.do_exchange-ended.new.term) in
-    (inv.0 ++ d.0 ∷ [], more.0, more.1, tt, HeldEnds-one _ _ _ joins c.args.settings.prompt inv.0 inv.3 d.0 c.in-Some-ended.served inv.4 d.2)
+    (inv.0 ++ d.0 ∷ [], more.0, more.1, tt, HeldEnds-one _ _ _ joins c.args.settings.manner inv.0 inv.3 d.0 c.in-Some-ended.served inv.4 d.2)
 
 pub held-preserved-in_default-ended : goal.held-preserved-in_default-ended
 held-preserved-in_default-ended g c =
@@ -23,7 +23,7 @@ held-preserved-in_default-ended g c =
     let first : AsksFirst c.held.splitter (Some c.in-Some.asked) c.next.new.self = rw c.in-Some.is at c.in-Ok.ensures.first in
     let more = exchange_more (allowance c.args.settings.bounds (HasRung g.A.Stop.answered)) _ _ (history_of c.do_exchange-ended.new.session) _ _ _ inv.0 d.0 c.in-Some.asked inv.1 inv.2 first d.1 in
     let joins = Shows-joins (g.T.Terminal.screen c.args.term.now) (g.T.Terminal.screen c.held.term) (g.T.Terminal.screen c.do_exchange-ended.new.term) in
-    (inv.0 ++ d.0 ∷ [], more.0, more.1, GoOn-append inv.0 (d.0 ∷ []) inv.3 (d.2.0, tt), exchange_shows _ _ _ joins c.args.settings.prompt inv.0 inv.3 d.0 inv.4 d.2.1)
+    (inv.0 ++ d.0 ∷ [], more.0, more.1, GoOn-append inv.0 (d.0 ∷ []) inv.3 (d.2.0, tt), exchange_shows _ _ _ joins c.args.settings.manner inv.0 inv.3 d.0 inv.4 d.2.1)
 
 pub held-preserved : goal.held-preserved
 held-preserved g c =
@@ -32,7 +32,7 @@ held-preserved g c =
     let first : AsksFirst c.held.splitter (Some c.in-Some.asked) c.next.new.self = rw c.in-Some.is at c.in-Ok.ensures.first in
     let more = exchange_more (allowance c.args.settings.bounds (HasRung g.A.Stop.answered)) _ _ (history_of c.do_exchange-ended.new.session) _ _ _ inv.0 d.0 c.in-Some.asked inv.1 inv.2 first d.1 in
     let joins = Shows-joins (g.T.Terminal.screen c.args.term.now) (g.T.Terminal.screen c.held.term) (g.T.Terminal.screen c.do_exchange-ended.new.term) in
-    (inv.0 ++ d.0 ∷ [], more.0, more.1, GoOn-append inv.0 (d.0 ∷ []) inv.3 (d.2.0, tt), exchange_shows _ _ _ joins c.args.settings.prompt inv.0 inv.3 d.0 inv.4 d.2.1)
+    (inv.0 ++ d.0 ∷ [], more.0, more.1, GoOn-append inv.0 (d.0 ∷ []) inv.3 (d.2.0, tt), exchange_shows _ _ _ joins c.args.settings.manner inv.0 inv.3 d.0 inv.4 d.2.1)
 
 pub held-smaller-in_default-ended : goal.held-smaller-in_default-ended
 held-smaller-in_default-ended g c =

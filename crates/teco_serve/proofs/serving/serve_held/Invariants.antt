@@ -9,7 +9,7 @@ use Rattle.teco_serve.proofs.serving.serve_held.Given as goal
 abbrev pub invariant-held : goal.invariant-held
 invariant-held g l =
     (exchanges : List Exchange) × Exchanges (allowance l.settings.bounds (HasRung g.A.Stop.answered)) (history_of l.initial.session) exchanges (history_of l.session) × CutsOff l.initial.splitter exchanges l.splitter × GoOn exchanges
-    × Shows (g.T.Terminal.screen l.initial.term) (g.T.Terminal.screen l.term) (exchanges_shown l.settings.prompt exchanges) false
+    × Shows (g.T.Terminal.screen l.initial.term) (g.T.Terminal.screen l.term) (exchanges_shown l.settings.manner exchanges) false
 
 abbrev pub decreases-held : goal.decreases-held
 decreases-held g l = length l.splitter

@@ -9,7 +9,7 @@ pub(super) const ROWS: &str = "
     - // Pages whose output is in two parts: what was written, and the rest of the input.
     - teco -e YPIA$EX$$ - => a\x0cb\x0cc => a\x0cAb\x0cc
     - // Without an exit there is no output.
-    - teco -e YZ=$$ - => hi\n => 3\r\n => => => 2
+    - teco -e YZ=$$ - => hi\n => 3\r\n => => teco: -: not written, the commands ended without EX\n => 2
     - // A file of commands that has the name of standard input.
     - teco -f - in => YZ=EX\x1b\x1b => 3\r\n => => => => in == hi\n => in == hi\n ++ in.out == hi\n
     - // A check of it reads no input.
@@ -18,8 +18,8 @@ pub(super) const ROWS: &str = "
     - // One that fails doesn't hold up the others.
     - teco -e YZ=IA$EX$$ none in => unread => 3\r\n => teco: cannot read none: there is no such file or folder\n => => 1 => in == hi\n => in == hi\n ++ in.out == Ahi\n
     - // One that ends without an exit after one that fails: the worst is 1.
-    - teco -e YZ=$$ none in => unread => 3\r\n => teco: cannot read none: there is no such file or folder\n => => 1 => in == hi\n
-    - teco -e YZ-4\"EIA$EX'Z=$$ in two => unread => 3\r\n => => => 2 => in == hi\n ++ two == two\n => in == hi\n ++ two == two\n ++ two.out == Atwo\n
+    - teco -e YZ=$$ none in => unread => 3\r\n => teco: cannot read none: there is no such file or folder\n => teco: in: not written, the commands ended without EX\n => 1 => in == hi\n
+    - teco -e YZ-4\"EIA$EX'Z=$$ in two => unread => 3\r\n => => teco: in: not written, the commands ended without EX\n => 2 => in == hi\n ++ two == two\n => in == hi\n ++ two == two\n ++ two.out == Atwo\n
     - // The second run reads what the first one wrote.
     - teco -i -p IA$ in in => unread => => => => => in == hi\n => in == AAhi\n
     - // The file of commands is read once, so standard input serves all.

@@ -7,7 +7,7 @@ use crate::tests::step::failed_searches;
 use std::alloc::Global;
 use std::test::*;
 use teco_io::MemorySource;
-use teco_serve::{Bounds, ClockAlarm, Served, Settings, Silent, serve};
+use teco_serve::{Bounds, ClockAlarm, Manner, Served, Settings, Silent, serve};
 use teco_session::Session;
 use teco_store::Desk;
 
@@ -48,7 +48,10 @@ fn served_by(
             steps,
             seconds: None,
         },
-        prompt,
+        manner: Manner {
+            prompt,
+            shows_codes: true,
+        },
     };
     let clock = Ticking::new();
     let alarm = &mut ClockAlarm::new(&clock);

@@ -5,22 +5,22 @@ pub(crate) const ROWS: &str = "
     - teco in --output=out --execute=YHT$$EX$$ => => hi\n => => => => in == hi\n => in == hi\n ++ out == hi\n
     - // Layout, a comment and a line end of the text.
     - teco -e Ia^Jb$\n\tHT$$\t!!types\nEX$$ in => => a\nb => => => => in == hi\n => in == hi\n ++ in.out == a\nbhi\n
-    - teco -e I5^$$HT$$ in => => 5$ => => => 2 => in == hi\n
+    - teco -e I5^$$HT$$ in => => 5$ => => teco: in: not written, the commands ended without EX\n => 2 => in == hi\n
     - // Carets in a text: a caret, DEL, a dollar sign, an exclamation mark and a control byte.
-    - teco -e Ix^=^?^$!^!^e$HT$$ in => => x^\x7f$!!\x05 => => => 2 => in == hi\n
+    - teco -e Ix^=^?^$!^!^e$HT$$ in => => x^\x7f$!!\x05 => => teco: in: not written, the commands ended without EX\n => 2 => in == hi\n
     - // A single quote of a word between single quotes.
     - teco -e YZ\"GZJ-A-10\"NIx^`s$^`^`EX$$ in => => => => => => in == hi => in == hi ++ in.out == hix's
     - teco -p <.-Z;L-A-10\"ER^`I;$L> in => => hi;\nho; => => => => in == hi\nho
     - // A caret and a letter are a control command; the word ends without an exit.
-    - teco -e @^UA/xy/GAHT$$ in => => xy => => => 2 => in == hi\n
+    - teco -e @^UA/xy/GAHT$$ in => => xy => => teco: in: not written, the commands ended without EX\n => 2 => in == hi\n
     - teco -f page.teco in => => 3\r\na\nbhi\n => => => => in == hi\n ++ page.teco == #!/usr/bin/env -S teco -f\n!!types a line\nY$$  \n\tZ=$$ !!its length\nIa^Jb$ HT$$\nEX$$\n => in == hi\n ++ page.teco == #!/usr/bin/env -S teco -f\n!!types a line\nY$$  \n\tZ=$$ !!its length\nIa^Jb$ HT$$\nEX$$\n ++ in.out == a\nbhi\n
     - // The files in their order, and then the word, wherever it stands.
     - teco -f lib.teco -e HTEX$$ -f calls.teco in => => x^hi\n => => => => in == hi\n ++ lib.teco == @^UA/0L Ix^=$ /$$\n!!puts in x and a caret\n ++ calls.teco == Y MA$$\n => in == hi\n ++ lib.teco == @^UA/0L Ix^=$ /$$\n!!puts in x and a caret\n ++ calls.teco == Y MA$$\n ++ in.out == x^hi\n
     - teco -e MAHTEX$$ -f lib.teco in => => x^ => => => => in == hi\n ++ lib.teco == @^UA/0L Ix^=$ /$$\n!!puts in x and a caret\n => in == hi\n ++ lib.teco == @^UA/0L Ix^=$ /$$\n!!puts in x and a caret\n ++ in.out == x^hi\n
     - // ESC is a byte of a source too, and a dollar sign is written with a caret.
-    - teco --file=strings in => => $ => => => 2 => in == hi\n ++ strings == I^$\x1bHT\x1b\x1b
+    - teco --file=strings in => => $ => => teco: in: not written, the commands ended without EX\n => 2 => in == hi\n ++ strings == I^$\x1bHT\x1b\x1b
     - // The bytes of a file as they are: a dollar sign and a line end are themselves.
-    - teco --bytes=strings in => => $\n!!^J => => => 2 => in == hi\n ++ strings == I$\n!!^J\x1bHT\x1b\x1b
+    - teco --bytes=strings in => => $\n!!^J => => teco: in: not written, the commands ended without EX\n => 2 => in == hi\n ++ strings == I$\n!!^J\x1bHT\x1b\x1b
     - teco -b strings in => => 3\r\n => => => => in == hi\n ++ strings == Y\x1b\x1bZ=\x1b\x1bEX\x1b\x1b => in == hi\n ++ strings == Y\x1b\x1bZ=\x1b\x1bEX\x1b\x1b ++ in.out == hi\n
     - // A source that can't be read is a faulty line: nothing of it is run, nor of the others.
     - teco -f wrong in => => => teco: wrong:2:3: a caret before what it cannot stand before\n => => 3 => in == hi\n ++ wrong == HKEX$$\nIa^+$$\n
@@ -59,5 +59,5 @@ pub(crate) const ROWS: &str = "
     - teco -p FSi$o in => => => --pages:1:1: UTC: the second text of FS has no ESC; two ESC end the command string\n => => 3 => in == hi\n
     - teco -p J$$K in => => => --pages:1:1: UTC: < has no >\n--pages:1:5: BNI: > has no <\n => => 3 => in == hi\n
     - // What no check looks into is run: code that is made while it runs. So are the bytes of a file as they are.
-    - teco -i -e Y1XA0LMAEX$$ in => => ?ILL\r\n => => => 2 => in == ?\n
-    - teco -i -b strings in => => ?IQN\r\n => => => => in == hi\n ++ strings == YM?\x1b\x1bEX\x1b\x1b";
+    - teco -i -e Y1XA0LMAEX$$ in => => => => teco: in: --execute:1:7 in A 1:1: ILL: no such command\n => 2 => in == ?\n
+    - teco -i -b strings in => => => => teco: in: strings: string 1, 1:2: IQN: no such register\n => => in == hi\n ++ strings == YM?\x1b\x1bEX\x1b\x1b";

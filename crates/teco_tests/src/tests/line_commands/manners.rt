@@ -1,0 +1,45 @@
+//! A tool's manner, where an option gives the commands: one line for each end that is no written or unchanged file, and no code among what
+//! is typed. And TECO's, where they come from standard input.
+
+pub(crate) const ROWS: &str = "
+    - // An error is told where it happens, by the name, the line and the column of its own source.
+    - teco -f strings in => => => => teco: in: strings:2:3: SRH: the search found nothing\n => 2 => in == hi\n ++ strings == Y\n  FSxyz$a$\nEX$$\n
+    - teco -f one -f strings in => => => => teco: in: strings:2:2: SRH: the search found nothing\n => 2 => in == hi\n ++ one == Y$$\n ++ strings == \n Sx$$\nHK$$\n => in == hi\n ++ one == Y$$\n ++ strings == \n Sx$$\nHK$$\n
+    - teco -f one -e Sx$$EX$$ in => => => => teco: in: --execute:1:1: SRH: the search found nothing\n => => in == hi\n ++ one == Y$$\n\n => in == hi\n ++ one == Y$$\n\n ++ in.out == hi\n
+    - // What the commands type goes to standard output alone.
+    - teco -e YHT$$Sx$$HT$$EX$$ in => => hi\nhi\n => => teco: in: --execute:1:6: SRH: the search found nothing\n => => in == hi\n => in == hi\n ++ in.out == hi\n
+    - teco -e YHTSx$$ -o - in => => hi\n => => teco: in: --execute:1:4: SRH: the search found nothing\n => 2 => in == hi\n
+    - // Each error is told, and those of each INPUT.
+    - teco -e Y$$Sx$$Sy$$EX$$ in => => => => teco: in: --execute:1:4: SRH: the search found nothing\nteco: in: --execute:1:8: SRH: the search found nothing\n => => in == hi\n => in == hi\n ++ in.out == hi\n
+    - teco -i -e YFSh$H$EX$$ in two ten => => => => teco: two: --execute:1:2: SRH: the search found nothing\nteco: ten: --execute:1:2: SRH: the search found nothing\n => 2 => in == hi\n ++ two == two\n ++ ten == ten\n => in == Hi\n ++ two == two\n ++ ten == ten\n
+    - teco -i -p FSi$o$ in two => => => => teco: two: --pages:1:1: SRH: the search found nothing\n => 2 => in == hi\n ++ two == two\n => in == ho\n ++ two == two\n
+    - // Where a macro runs, the place in the innermost one comes next.
+    - teco -e @^UA/0J9D/@^UB/MA/YMB$$ in => => => => teco: in: --execute:1:20 in A 1:4: DTB: delete past the buffer\n => 2 => in == hi\n
+    - // A file of commands as they are is no source: the number of the string is told, and the place in it.
+    - teco -b strings in => => => => teco: in: strings: string 2, 2:1: SRH: the search found nothing\n => => in == hi\n ++ strings == Y\x1b\x1b\nSx\x1b\x1bEX\x1b\x1b => in == hi\n ++ strings == Y\x1b\x1b\nSx\x1b\x1bEX\x1b\x1b ++ in.out == hi\n
+    - teco -b strings in two => => => => teco: in: strings: string 2, 1:1: SRH: the search found nothing\nteco: two: strings: string 2, 1:1: SRH: the search found nothing\n => 2 => in == hi\n ++ two == two\n ++ strings == Y\x1b\x1bSx\x1b\x1b
+    - // A refused undo, redo or rewind is told where it is asked.
+    - teco -e Y$$3{$$EX$$ in => => => => teco: in: --execute:1:4: NTU: nothing to undo\n => => in == hi\n => in == hi\n ++ in.out == hi\n
+    - teco -b strings in => => => => teco: in: strings: string 2, 1:1: NTR: nothing to redo\n => 2 => in == hi\n ++ strings == Y\x1b\x1b}\x1b\x1b
+    - // Commands that end without EX: that is told, unless an error was, or bytes that were not run.
+    - teco -e YHK$$ in => => => => teco: in: not written, the commands ended without EX\n => 2 => in == hi\n
+    - teco -e Y$$HKEX in => => => => teco: in: 4 bytes after the last $$ were not run\n => 2 => in == hi\n
+    - teco -e Y$$K in => => => => teco: in: 1 byte after the last $$ was not run\n => 2 => in == hi\n
+    - teco -e YHKEX$ in => => => => teco: in: 6 bytes after the last $$ were not run\n => 2 => in == hi\n
+    - teco -e Y$$Sx$$EX in => => => => teco: in: --execute:1:4: SRH: the search found nothing\nteco: in: 2 bytes after the last $$ were not run\n => 2 => in == hi\n
+    - teco -b strings in => => => => teco: in: not written, the commands ended without EX\n => 2 => in == hi\n ++ strings == Y\x1b\x1b\r\n
+    - teco -e YZ-4\"ESx$'$$ in two => => => => teco: in: not written, the commands ended without EX\nteco: two: --execute:1:7: SRH: the search found nothing\n => 2 => in == hi\n ++ two == two\n
+    - // What comes after an exit is not told.
+    - teco -e YEX$$HK in => => => => => => in == hi\n => in == hi\n ++ in.out == hi\n
+    - // A limit tells its number.
+    - teco --limit 5 -e <>$$ in => => => => teco: in: --execute:1:2: LIM: 5 steps are done: --limit N allows more\n => 2 => in == hi\n
+    - teco --seconds 3 -e <>$$ in => => => => teco: in: --execute:1:2: LIM: the time of 3 s is over: --seconds N allows more\n => 2 => in == hi\n
+    - // Quiet is kept of how the commands ended, and not of files that can't be read.
+    - teco -q -e Y$$Sx$$ in => => => => => 2 => in == hi\n
+    - teco --quiet -e YHK$$ in => => => => => 2 => in == hi\n
+    - teco -q -e YHKEX$ in => => => => => 2 => in == hi\n
+    - teco -q -e EX$$ none => => => teco: cannot read none: there is no such file or folder\n => => 1 => in == hi\n
+    - teco -q --explain -e Y$$Sx$$EX$$ in => => => => string 2, step 0, 1:1, Sx$: SRH, the search found nothing\nin.out is written\n => => in == hi\n => in == hi\n ++ in.out == hi\n
+    - // Commands of standard input are served in TECO's manner.
+    - teco in => Y\x1b\x1bSx\x1b\x1bHK => ?SRH\r\n => => => 2 => in == hi\n
+    - teco -q in => Y\x1b\x1bSx\x1b\x1bHK => ?SRH\r\n => => => 2 => in == hi\n";
