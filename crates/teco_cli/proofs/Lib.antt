@@ -1,4 +1,3 @@
-mod Assigning
 mod CommandRows
 mod Joinings
 mod CommandLines

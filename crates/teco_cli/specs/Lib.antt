@@ -1,4 +1,3 @@
-pub mod Assignments
 pub mod CommandLine
 pub mod Conflict
 pub mod Joining
