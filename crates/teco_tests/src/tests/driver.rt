@@ -24,6 +24,7 @@ mod limits;
 mod line;
 mod reader_source;
 mod serving;
+mod slips;
 mod splitter;
 mod word;
 
