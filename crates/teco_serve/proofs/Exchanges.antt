@@ -137,6 +137,7 @@ code_some manner (Some c) e =
     or_right : (a b : Bool) → b ≡ true → (a || b) ≡ true
     or_right true b h = refl
     or_right false b h = h
+
     line_some : (c : Code) → code_line c ≢ []
     line_some c none = cc
 
