@@ -192,4 +192,4 @@ block && /\*Trap \([^)]*\):\*/ { trapped() }
 /^\.\\" (before|after|typed|file|left) / { printf_text($2) }
 /^\.\\" status / { held_status = $3 }
 /^\.Dl / && is_shell { shell_line(); next }
-/^\.Dl .*teco -e / { display() }
+/^\.Dl .*teco (-q )?-e / { display() }
