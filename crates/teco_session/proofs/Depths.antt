@@ -2,7 +2,7 @@
 use Rattle.std.proofs.Common.{◌≡◌, ℕ, zero, suc, ◌+◌, ◌-◌, ◌≤◌, Option, None, Some, List, [], ◌∷◌, ◌++◌, length, take, drop, reverse, refl, sym, ◌∙◌, ap, subst, arith}
 use Rattle.std.proofs.lemmas.List.{reverse-append, length-reverse, length-take-le, length-drop, drop-drop}
 use Rattle.std.proofs.Math.Seq.{take-add, drop-append_seam}
-use Rattle.teco_store.specs.State.{State, Body, state_at, paged_beginning}
+use Rattle.teco_store.specs.State.{State, Body, state_at}
 use Rattle.teco_undo.specs.Entry.{body_back}
 use Rattle.teco_session.specs.History.{History, NotedString, state_after, AreMeant, HasBegun, IsHistory, without_first}
 use Rattle.teco_session.specs.Strings.{KeptString}
@@ -33,10 +33,10 @@ parts s (x ∷ notes) (suc n) m = let p = parts x.state notes n m.1 in record { 
 pub has_begun : (depth : Option ℕ) (s : State) (notes : List NotedString) (n : ℕ) → (depth ≡ None → n ≡ 0) → AreMeant s notes → HasBegun depth s → HasBegun depth (state_after s notes n)
 has_begun None s notes n none m b = rw (none refl) b
 has_begun (Some depth) s notes n none m b =
-    let first : State = paged_beginning b.0 b.1 in
+    let first : State = b.0 in
     let dropped : List NotedString = b.2 in
     let p = parts s notes n m in (
-      b.0,
+      first,
       b.1,
       dropped ++ take n notes,
       AreMeant-append first dropped (take n notes) b.3 (subst (λ (z : State). AreMeant z (take n notes)) b.4 p.first),

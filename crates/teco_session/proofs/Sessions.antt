@@ -9,15 +9,15 @@ use Rattle.teco_core.specs.Number.{IsNumber}
 use Rattle.teco_core.specs.Register.{Content, blank}
 use Rattle.std.proofs.lemmas.List.{get_or_default, take_more_set, length-take-le, length-drop}
 use Rattle.teco_core.specs.declared.limits.TheConstants.{FILE_LIMIT, TEXT_LIMIT}
-use Rattle.teco_store.specs.State.{Full, IsSound, state_of, with_body, paged_beginning, new_paged_full}
+use Rattle.teco_store.specs.State.{Full, IsSound, State, state_of, with_body, new_paged_full}
 use Rattle.teco_undo.specs.Entry.{body_back, body_forth, since}
 use Rattle.teco_undo.specs.Follows.{LeadsBack}
 use Rattle.teco_undo.specs.RecordLaws.{BackThenForth, ForthThenBack, ComesSoExtended, ComesSoFarCut}
 use Rattle.teco_exec.specs.StringMeaning.{string_meaning}
 use Rattle.teco_session.specs.Strings.{keeps_none, beyond}
-use Rattle.teco_session.specs.History.{History, NotedString, HasBegun, note_at, present, without_first, appended, noted, undone, redone, with_steps, rewound}
+use Rattle.teco_session.specs.History.{History, NotedString, HasBegun, IsBeginning, note_at, present, without_first, appended, noted, undone, redone, with_steps, rewound}
 use Rattle.teco_session.specs.Strings.{KeptString, string_back, string_cut, string_forth, newest}
-use Rattle.teco_session.specs.Kept.{KeptSession, string_at, cut_to, new_paged_session, noted_as, IsSession, HasRun, history_of, reverted, applied}
+use Rattle.teco_session.specs.Kept.{KeptSession, string_at, cut_to, session_over, noted_as, IsSession, HasRun, history_of, reverted, applied}
 use Rattle.teco_session.proofs.Turning.{Turned, length-notes, session_back, session_forth}
 use Rattle.teco_session.proofs.Headings.{has_steps}
 use Rattle.teco_session.proofs.Rewinding.{session_cut}
@@ -30,37 +30,44 @@ session_with f xs c depth = record { editor = f; strings = xs; cursor = c; depth
 same_session : (f g : Full) (xs ys : List KeptString) (c k : ℕ) (d e : Option ℕ) → f ≡ g → xs ≡ ys → c ≡ k → d ≡ e → session_with f xs c d ≡ session_with g ys k e
 same_session f g xs ys c k d e p q r s = rw (p, q, r, s) refl
 
--- The beginning of a session.
-begun : (lines : ℕ) (depth : Option ℕ) (input : List ℕ) → HasBegun depth (paged_beginning lines input)
-begun lines None input = refl
-begun lines (Some depth) input = (lines, input, [], tt, refl)
+-- The beginning of a session over an editor.
+begun : (depth : Option ℕ) (first : State) → IsBeginning first → HasBegun depth first
+begun None first is = is
+begun (Some depth) first is = (first, is, [], tt, refl)
+
+pub session_from : (depth : Option ℕ) (f g : Full) (xs : List KeptString) (d : Option ℕ) → IsSound f.room (length f.stored) f.body
+    → IsBeginning (state_of f) → g ≡ f → xs ≡ [] → d ≡ depth → IsSession (session_with g xs 0 d)
+session_from depth f g xs d sound first at none same =
+    let new : session_with g xs 0 d ≡ session_over depth f = same_session _ _ _ _ _ _ _ _ at none refl same in
+    subst IsSession (sym new) (record {
+      within = search rules;
+      sound = sound;
+      back = tt;
+      forth = tt;
+      history = record { begins = begun depth (state_of f) first; states = tt; within = search rules };
+    })
+
+-- The same with an input.
 
 pub session_begun : (lines : ℕ) (depth : Option ℕ) (input : List ℕ) (g : Full) (xs : List KeptString) (d : Option ℕ) → length input ≤ FILE_LIMIT
     → g ≡ new_paged_full lines input → xs ≡ [] → d ≡ depth → IsSession (session_with g xs 0 d)
 session_begun lines depth input g xs d small at none same =
-    let new : session_with g xs 0 d ≡ new_paged_session lines depth input = same_session _ _ _ _ _ _ _ _ at none refl same in
-    subst IsSession (sym new) (record {
-      within = search rules;
-      sound = record {
-        pointer = search rules;
-        text = search rules;
-        room = search rules;
-        all = search rules;
-        registers = All-replicate (λ (c : Content). length c.text ≤ TEXT_LIMIT) 36 blank (omega arith);
-        numbers = All-replicate (λ (c : Content). IsNumber c.number) 36 blank (omega (arith, ints), omega (arith, ints));
-        few = search rules;
-        pushed = All-replicate (λ (c : Content). length c.text ≤ TEXT_LIMIT) 0 blank (omega arith);
-        pushed_numbers = All-replicate (λ (c : Content). IsNumber c.number) 0 blank (omega (arith, ints), omega (arith, ints));
-        place = search rules;
-        input = small;
-        stored = search rules;
-        output = search rules;
-        last_search = λ v e. absurd (none-some v e);
-      };
-      back = tt;
-      forth = tt;
-      history = record { begins = begun lines depth input; states = tt; within = search rules };
-    })
+    session_from depth (new_paged_full lines input) g xs d (record {
+      pointer = search rules;
+      text = search rules;
+      room = search rules;
+      all = search rules;
+      registers = All-replicate (λ (c : Content). length c.text ≤ TEXT_LIMIT) 36 blank (omega arith);
+      numbers = All-replicate (λ (c : Content). IsNumber c.number) 36 blank (omega (arith, ints), omega (arith, ints));
+      few = search rules;
+      pushed = All-replicate (λ (c : Content). length c.text ≤ TEXT_LIMIT) 0 blank (omega arith);
+      pushed_numbers = All-replicate (λ (c : Content). IsNumber c.number) 0 blank (omega (arith, ints), omega (arith, ints));
+      place = search rules;
+      input = small;
+      stored = search rules;
+      output = search rules;
+      last_search = λ v e. absurd (none-some v e);
+    }) refl at none same
 
 -- the string at a place is what is read there, whatever would be read elsewhere
 pub at_self : (s : KeptSession) (i : ℕ) → i < length s.strings → string_at s i ≡ get_or s.strings i (string_at s i)

@@ -19,14 +19,18 @@ pub record KeptSession : Type 0 where
   pub cursor : ℕ
   pub depth : Option ℕ
 
--- the beginning, with this input and pages of so many lines
-abbrev pub new_paged_session : ℕ → Option ℕ → List ℕ → KeptSession
-new_paged_session lines depth input = record {
-  editor = new_paged_full lines input;
+-- no string yet, over this editor
+abbrev pub session_over : Option ℕ → Full → KeptSession
+session_over depth editor = record {
+  editor = editor;
   strings = [];
   cursor = 0;
   depth = depth;
 }
+
+-- the beginning, with this input and pages of so many lines
+abbrev pub new_paged_session : ℕ → Option ℕ → List ℕ → KeptSession
+new_paged_session lines depth input = session_over depth (new_paged_full lines input)
 
 abbrev pub new_session : Option ℕ → List ℕ → KeptSession
 new_session depth input = new_paged_session 0 depth input

@@ -8,8 +8,8 @@ ghost use Rattle.teco_store.specs.State.{state_of};
 ghost use Rattle.teco_io.specs.Terminal.{Shows};
 ghost use Rattle.teco_session.specs.Answers.{is_unbegun, outcome_of, string_outcome};
 ghost use Rattle.teco_session.specs.Strings.{IsWithinDepth};
-ghost use Rattle.teco_session.specs.History.{IsHistory, new_history, new_paged_history, note_at, present, redone, rewound, state_after, undone, without_undone};
-ghost use Rattle.teco_session.specs.Kept.{IsSession, IsSmall, applied, cut_to, forgotten, history_of, new_paged_session, new_session, reverted, string_at};
+ghost use Rattle.teco_session.specs.History.{IsBeginning, IsHistory, history_from, new_history, new_paged_history, note_at, present, redone, rewound, state_after, undone, without_undone};
+ghost use Rattle.teco_session.specs.Kept.{IsSession, IsSmall, applied, cut_to, forgotten, history_of, new_paged_session, new_session, reverted, session_over, string_at};
 ghost use Rattle.teco_session.specs.RunsIn.{RunsIn};
 ghost use Rattle.teco_session.specs.Step.{Step, Reply, is_terminal_failure};
 ghost use Rattle.teco_session.specs.Play.{Play, ShowsAll, answers_of};
@@ -98,9 +98,21 @@ impl Session {
             ≡ new_paged_history lines depth input.items) }
         ensures every { depth ≡ None → IsOk result }
     {
-        let entries = Entries::of_depth(*input.allocator(), depth)?;
+        Session::over(Editor::with_page_lines(input, lines), depth)
+    }
+
+    /// A new session over an editor at its beginning, whose registers may hold something already. It keeps strings as
+    /// [`Session::with_pages`] says. No undo and no rewind goes back to before this state.
+    pub fn over(editor: Editor, depth: Option<usize>) -> Result<Session, NoMemory>
+        requires beginning { IsBeginning (state_of editor) }
+        requires depth { ForSome depth (λ depth. depth ≤ DEPTH_LIMIT) }
+        ensures value { IfOk result (λ session. session ≡ session_over depth editor) }
+        ensures history { IfOk result (λ session. history_of session ≡ history_from depth (state_of editor)) }
+        ensures every { depth ≡ None → IsOk result }
+    {
+        let entries = Entries::of_depth(editor.allocator(), depth)?;
         Ok(Session {
-            recorder: Recorder::new(Editor::with_page_lines(input, lines)),
+            recorder: Recorder::new(editor),
             entries,
             cursor: 0,
         })
