@@ -1,7 +1,7 @@
 -- What a parse by the program's command gives.
 use Rattle.std.proofs.Common.{◌≡◌, ◌∙◌, ◌≤◌, ℕ, true, false, refl, sym, ap, subst, arith, List, is_some, codes, Option, Some, None, Result, Ok, Err, inl, inr, []}
 use Rattle.std.specs.Prelude.{IfOk, IfSome}
-use Rattle.std.specs.List.{slice_index_or}
+use Rattle.std.specs.List.{Any, slice_index_or}
 use Rattle.clap.specs.Takes.{takes}
 use Rattle.clap.specs.Kinds.{HasKind}
 use Rattle.clap.specs.Facts.{args_of, least_values, unwrap_or_range}
@@ -24,7 +24,8 @@ use Rattle.clap.proofs.CallerLemmas.{required_has_value}
 use Rattle.clap.proofs.SimpleLemmas.{plain_fields}
 use Rattle.clap.proofs.WalkLemmas.{first_value-rows, one_text-rows}
 use Rattle.teco_core.specs.declared.limits.TheConstants.{DEPTH_LIMIT}
-use Rattle.teco_cli.specs.CommandLine.{IsCommandsFault, IsFaultSaid, IsTecoError, IsFaultOnceMade, IsLineBy, IsLineFault, IsMisfit, IsReadFault, IsRefusal, teco_app}
+use Rattle.teco_cli.specs.CommandLine.{IsCommandsFault, IsFaultSaid, IsTecoError, IsFaultOnceMade, IsLineBy, IsLineFault, IsMisfit, IsReadFault, IsRefusal, IsWordsFault, teco_app}
+use Rattle.teco_cli.specs.Assignments.{IsNoAssignment}
 use Rattle.teco_cli.specs.Options.{AreMany, HasLine, IsGiven, repeats_commands, option_texts}
 use Rattle.teco_cli.specs.Conflict.{has_conflict}
 use Rattle.teco_cli.specs.Joining.{joined}
@@ -155,12 +156,17 @@ module _ (c : Command) (m : ArgMatches) (words : List Text) (is : app_of c ≡ t
 -- a line with a conflict is what a parse says
 pub misfit_is : (parse : List Row) (line : Line) → HasLine parse line → (fault : LineFault) → IsMisfit line fault → IsReadFault parse fault
 misfit_is parse line has NoMemory h = tt
-misfit_is parse line has (Refused refusal) h = (inr (inr (line, has, h.0)), h.1)
+misfit_is parse line has (Refused refusal) h = (inr (inr (inr (line, has, h.0))), h.1)
 
 -- commands that are given again
 pub repeated_is : (parse : List Row) (why : Text) (fault : LineFault) → repeats_commands parse ≡ true → IsFaultSaid why fault → IsReadFault parse fault
 repeated_is parse why NoMemory again said = tt
 repeated_is parse why (Refused refusal) again said = (inr (inl again), said.refused_as)
+
+-- words of --assign that are no assignments
+pub words_fault_is : (parse : List Row) (words : List Text) (fault : LineFault) → option_texts (codes "assign") parse ≡ words → IsWordsFault words fault → IsReadFault parse fault
+words_fault_is parse words NoMemory is h = tt
+words_fault_is parse words (Refused refusal) is h = (inr (inr (inl (subst (Any IsNoAssignment) (sym is) h.0))), h.1)
 
 -- commands that are given more than once
 pub commands_fault_is : (parse : List Row) (fault : LineFault)

@@ -5,7 +5,7 @@ use Rattle.clap.specs.declared.error.kind.ErrorKind.TheVariants.{DisplayHelp, In
 use Rattle.clap.proofs.OnLiterals.{clap_on_literals}
 use Rattle.teco_cli.specs.CommandLine.{on_pages, teco_app}
 use Rattle.teco_cli.specs.Joining.{joined, joined_after}
-use Rattle.teco_cli.specs.Options.{repeats_commands}
+use Rattle.teco_cli.specs.Options.{repeats_commands, option_texts}
 use Rattle.teco_cli.specs.StreamNames.{is_standard_input, is_standard_output}
 
 -- what the words give for the inputs, the output, the flags and the numbers
@@ -141,6 +141,12 @@ commands_given : map commands_of (
     ∷ (None, None, None, Some (codes "c")) ∷ (None, None, None, Some (codes "c")) ∷ []
 unfolding clap_on_literals
 commands_given = refl
+
+-- teco -v A=b -vC:=1 a: the words of --assign in their order
+assigned : option_texts (codes "assign") (matches_of teco_app (codes "teco" ∷ codes "-v" ∷ codes "A=b" ∷ codes "-vC:=1" ∷ codes "a" ∷ []))
+    ≡ codes "A=b" ∷ codes "C:=1" ∷ []
+unfolding clap_on_literals
+assigned = refl
 
 -- teco -e b -e c a; teco -bb --bytes=c a; teco -f b -f c a: the parser takes each, and the program not the first two
 repeated : map (λ words. repeats_commands (matches_of teco_app words)) (

@@ -1,3 +1,4 @@
+mod Assigning
 mod CommandRows
 mod Joinings
 mod CommandLines

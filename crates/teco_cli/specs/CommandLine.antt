@@ -1,7 +1,7 @@
 -- What the command line says: teco [OPTIONS] INPUT...
 use Rattle.std.specs.Prelude.{Bool, ◌-◌, length, take, ◌++◌, IfSome, ◌≡◌, ◌≤◌, ◌==◌, ℕ, List, [], ◌∷◌, Option, Some, codes, true}
 use Rattle.std.specs.Prelude.{false, ⊤, ◌⊎◌}
-use Rattle.std.specs.List.{suffix_len}
+use Rattle.std.specs.List.{Any, suffix_len}
 use Rattle.clap.specs.Words.{App, IsAmong, Row, Rule, Text, fault_of, matches_of}
 use Rattle.clap.specs.Words.{new_rule, takes}
 use Rattle.clap.specs.declared.builder.action.ArgAction.TheVariants.{Append, Set}
@@ -9,9 +9,10 @@ use Rattle.clap.specs.declared.error.kind.ErrorKind.{ErrorKind}
 use Rattle.clap.specs.declared.error.kind.ErrorKind.TheVariants as kind
 use Rattle.teco_core.specs.declared.ascii.TheConstants.{ESC}
 use Rattle.teco_core.specs.declared.limits.TheConstants.{DEPTH_LIMIT}
+use Rattle.teco_cli.specs.Assignments.{IsNoAssignment}
 use Rattle.teco_cli.specs.Conflict.{has_conflict}
 use Rattle.teco_cli.specs.Joining.{joined}
-use Rattle.teco_cli.specs.Options.{AreMany, HasLine, SaysMany, option_rules, repeats_commands}
+use Rattle.teco_cli.specs.Options.{AreMany, HasLine, SaysMany, SaysNoAssignment, option_rules, repeats_commands}
 use Rattle.teco_cli.specs.OptionTable.{with_rules}
 use Rattle.teco_cli.specs.Parsing.{program_app}
 use Rattle.teco_cli.specs.Refusals.{IsFaulty, IsToldAs}
@@ -99,15 +100,24 @@ pub record IsFit (line : Line) : Type 0 where
   pub page_lines : IfSome line.page_lines IsPageLength
   pub fits : has_conflict line ≡ false
 
--- A parse says what no line says: commands more than once, or a line with a conflict.
+-- A parse says what no line says: commands more than once, a word of --assign that is no assignment, or a line with a conflict.
 abbrev pub SaysConflict : List Row → Type 0
-SaysConflict rows = SaysMany rows ⊎ ((repeats_commands rows ≡ true)
-    ⊎ ((line : Line) × HasLine rows line × (has_conflict line ≡ true)))
+SaysConflict rows = SaysMany rows ⊎ ((repeats_commands rows ≡ true) ⊎ (SaysNoAssignment rows
+    ⊎ ((line : Line) × HasLine rows line × (has_conflict line ≡ true))))
 
 -- Why there is no line by a parse: memory was refused, or what it says is no line.
 abbrev pub IsReadFault : List Row → LineFault → Type 0
 IsReadFault rows NoMemory = ⊤
 IsReadFault rows (Refused refusal) = SaysConflict rows × (refusal.refused_as ≡ Faulty)
+
+-- Why a word of --assign, and why several of them, give no assignments: memory was refused, or one is none and the line is faulty.
+abbrev pub IsWordFault : Text → LineFault → Type 0
+IsWordFault word NoMemory = ⊤
+IsWordFault word (Refused refusal) = IsNoAssignment word × (refusal.refused_as ≡ Faulty)
+
+abbrev pub IsWordsFault : List Text → LineFault → Type 0
+IsWordsFault words NoMemory = ⊤
+IsWordsFault words (Refused refusal) = Any IsNoAssignment words × (refusal.refused_as ≡ Faulty)
 
 -- Why a line is given up once it is read: the same, of the line.
 abbrev pub IsMisfit : Line → LineFault → Type 0

@@ -1,3 +1,4 @@
+pub mod Assignments
 pub mod CommandLine
 pub mod Conflict
 pub mod Joining

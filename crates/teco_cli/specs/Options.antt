@@ -1,11 +1,12 @@
 -- The options of the program: the parser's rules for them, and what a line has of each.
 use Rattle.std.specs.Prelude.{Bool, ◌||◌, nat_lt, length, map, unwrap_or, IfSome, ◌≡◌, ◌≤◌, List, [], ◌∷◌, Option, Some, None, IsTrue, ◌↔◌, codes, true}
 use Rattle.std.specs.Prelude.{false, option_map, is_some}
-use Rattle.std.specs.List.{count_by, list_any}
+use Rattle.std.specs.List.{AllZip, Any, count_by, list_any}
 use Rattle.std.specs.String.{string_bytes}
 use Rattle.clap.specs.Words.{all_of, IsUnsignedIn, Row, Rule, Text, first_of, one_of}
 use Rattle.teco_core.specs.declared.limits.TheConstants.{DEPTH_LIMIT}
 use Rattle.teco_cli.specs.OptionTable.{flag, with_number, with_text, with_texts}
+use Rattle.teco_cli.specs.Assignments.{IsAssignment, IsNoAssignment}
 use Rattle.teco_cli.specs.Values.{number_of}
 use Rattle.teco_cli.specs.declared.line.Commands.{Commands}
 use Rattle.teco_cli.specs.declared.line.Commands.TheVariants.{StandardInput, Sources, Pages, Bytes}
@@ -17,6 +18,7 @@ option_rules = with_texts (codes "execute") (Some 101)
     ∷ with_texts (codes "pages") (Some 112)
     ∷ with_texts (codes "file") (Some 102)
     ∷ with_texts (codes "bytes") (Some 98)
+    ∷ with_texts (codes "assign") (Some 118)
     ∷ with_text (codes "output") (Some 111)
     ∷ flag (codes "in-place") (Some 105)
     ∷ flag (codes "check") None
@@ -65,6 +67,10 @@ SaysMany rows = AreMany (first_of (codes "execute") rows) (option_texts (codes "
 abbrev pub repeats_commands : List Row → Bool
 repeats_commands rows = list_any (λ id. nat_lt 1 (length (option_texts id rows))) (codes "execute" ∷ codes "pages" ∷ codes "bytes" ∷ [])
 
+-- A word of --assign is no assignment: such a line is faulty too.
+abbrev pub SaysNoAssignment : List Row → Type 0
+SaysNoAssignment rows = Any IsNoAssignment (option_texts (codes "assign") rows)
+
 -- The line has what a parse gives for each argument. `first_of` is an argument's value as text; `one_of` is
 -- its text where it is read as a number or as a flag.
 pub record HasLine (rows : List Row) (line : Line) : Type 0 where
@@ -77,6 +83,8 @@ pub record HasLine (rows : List Row) (line : Line) : Type 0 where
   -- where the commands come from, so that one place of them is given, or none; and none is given twice
   pub commands : SaysCommands rows line.commands
   pub once : repeats_commands rows ≡ false
+  -- what is put into registers, word by word
+  pub values : AllZip IsAssignment (option_texts (codes "assign") rows) line.values.items
   -- the limit of steps, if it is given
   pub limit : option_map number_of (one_of (codes "limit") rows) ≡ line.limit
   -- the seconds that a string may run, if they are given

@@ -1,6 +1,7 @@
 //! How the words of a program are read, and the command line of `teco`.
 #![tactic(auto)]
 
+mod assignment;
 mod fault;
 mod line;
 mod options;
@@ -10,6 +11,7 @@ mod streams;
 mod values;
 mod words;
 
+pub use assignment::{AssignedValue, Assignment};
 pub use fault::{LineFault, fault_of_words};
 pub use line::{Commands, Line, commands_on_pages, line_of};
 pub use options::{MOST_STEPS, OptionRow, Takes};

@@ -8,9 +8,10 @@ ghost use Rattle.teco_cli.specs.Values.{text_behind, texts_behind};
 ghost use Rattle.teco_cli.specs.Conflict.{has_conflict};
 
 use crate::{
-    CommandLine, LineFault, Program, are_given, command_of, faulty, flag_at, number_at, refusal_of,
-    text_at, text_given, texts_at, texts_given,
+    Assignment, CommandLine, LineFault, Program, are_given, command_of, faulty, flag_at, number_at,
+    refusal_of, text_at, text_given, texts_at, texts_given,
 };
+use assigning::assignments_in;
 use clap::{ArgMatches, Command};
 use conflict::conflict_in;
 use joining::joined;
@@ -77,6 +78,8 @@ pub struct Line {
     pub explain: bool,
     /// Whether nothing is told on standard error of how a run ends.
     pub quiet: bool,
+    /// What is put into registers before the first command string, in this order.
+    pub values: Vec<Assignment>,
     /// The most command strings that are kept to be undone, from 1 to [`DEPTH_LIMIT`]; without it all are kept.
     pub undo: Option<u64>,
     /// The line ends after which a page ends, from 1 to [`MOST_PAGE_LINES`]; without it form feeds alone end pages.
@@ -160,6 +163,7 @@ fn line_in<'a>(alloc: Global, matches: &ArgMatches<'a>) -> Result<Line, LineFaul
     ensures refused { IfErr result (IsReadFault (rows_of (found_of matches.now))) }
 {
     let commands = commands_in(alloc, matches)?;
+    let values = assignments_in(alloc, matches)?;
     let input = String::from_str(alloc, matches.get_str("input").unwrap())?;
     let more = texts_at(alloc, matches, "more")?;
     let output = text_at(alloc, matches, "output")?;
@@ -177,6 +181,7 @@ fn line_in<'a>(alloc: Global, matches: &ArgMatches<'a>) -> Result<Line, LineFaul
         more,
         output,
         commands,
+        values,
         limit,
         seconds,
         prompt,
@@ -263,6 +268,7 @@ impl CommandLine for Line {
     }
 }
 
+mod assigning;
 mod conflict;
 mod joining;
 mod pages;

@@ -8,7 +8,7 @@ use crate::{MOST_STEPS, OptionRow, Takes};
 use teco_core::DEPTH_LIMIT;
 
 /// Every option, in the order of the help, and then the operands.
-static OPTIONS: [OptionRow; 16] = [
+static OPTIONS: [OptionRow; 17] = [
     OptionRow {
         name: "execute",
         short: Some('e'),
@@ -36,6 +36,13 @@ static OPTIONS: [OptionRow; 16] = [
         takes: Takes::Texts,
         value: "FILE",
         help: "The file that the commands are read from, as they are",
+    },
+    OptionRow {
+        name: "assign",
+        short: Some('v'),
+        takes: Takes::Texts,
+        value: "A=TEXT",
+        help: "Puts TEXT into register A before the first string, or by A:=N the number N; may be repeated",
     },
     OptionRow {
         name: "output",

@@ -8,7 +8,8 @@ use crate::tests::rows::{Cells, Rule, all_hold, cells_of, number_or};
 use std::alloc::Global;
 use std::test::*;
 use teco_cli::{
-    Commands, Line, LineFault, is_standard_input, is_standard_output, line_of, refused_status,
+    AssignedValue, Assignment, Commands, Line, LineFault, is_standard_input, is_standard_output,
+    line_of, refused_status,
 };
 use teco_core::NoMemory;
 
@@ -23,7 +24,7 @@ fn commands_told(alloc: Global, commands: &Commands) -> Result<String, NoMemory>
     }
 }
 
-/// What a line says but for its commands: the input, more of them, the output, whether it is in place, prompts, checks,
+/// What a line says but for its commands and its values: the input, more of them, the output, whether it is in place, prompts, checks,
 /// explains and is quiet, the limit, the seconds, the depth, and the lines of a page.
 fn rest_told(alloc: Global, line: &Line) -> Result<String, NoMemory> {
     let (input, more, output) = (&line.input, &line.more, &line.output);
@@ -179,6 +180,67 @@ const ROWS: &str = "
     teco --limit x --limit 5 in => => => 3
     teco --limit 5 --limit x in => => => 3
     teco -p 0K -p 0K in => => => 3
+    // What is put into registers is told below; these are refused.
+    teco -v A in => => => 3
+    teco -v in => => => 3
+    teco -v = in => => => 3
+    teco -v ?=x in => => => 3
+    teco -v AB=x in => => => 3
+    teco -v A: in => => => 3
+    teco -v A:x=1 in => => => 3
+    teco -v A:= in => => => 3
+    teco -v A:=- in => => => 3
+    teco -v A:=1x in => => => 3
+    teco -v A:=2147483648 in => => => 3
+    teco -v A:=-2147483649 in => => => 3
+    teco -v A=x -v B in => => => 3
+    ";
+
+/// What is put into registers: the number of each register, and the bytes of its text or its number.
+fn values_told(alloc: Global, values: &[Assignment]) -> Result<String, NoMemory> {
+    let mut told = String::new(alloc);
+    for assignment in values {
+        let register = assignment.register.index();
+        let one = match &assignment.value {
+            AssignedValue::Text(text) => format!(in alloc; "{register} {text:?} ")?,
+            AssignedValue::Number(number) => format!(in alloc; "{register} {number} ")?,
+        };
+        told.push_str(one.as_str())?;
+    }
+    Ok(told)
+}
+
+/// Words, and what they put into registers.
+#[derive(Clone, Copy)]
+struct Values;
+
+impl Rule for Values {
+    fn holds(&self, alloc: Global, row: &str) -> bool {
+        let [words, told, ..] = cells_of(row);
+        match line_of(alloc, words_of(alloc, words)) {
+            Ok(line) => match values_told(alloc, &line.values) {
+                Ok(values) => values.as_str().trim_end() == told,
+                Err(NoMemory) => false,
+            },
+            Err(_) => false,
+        }
+    }
+}
+
+const VALUES: &str = "
+    teco in =>
+    teco -v A=bc in => 0 [98, 99]
+    teco -v z=b in => 25 [98]
+    teco -v 0= in => 26 []
+    teco in --assign=9=a=b => 35 [97, 61, 98]
+    teco -vA=:=1 in => 0 [58, 61, 49]
+    teco -v A=x -v A:=-5 -v A=y in => 0 [120] 0 -5 0 [121]
+    teco -v B:=0 in => 1 0
+    teco -v B:=007 in => 1 7
+    teco -v B:=+7 in => 1 7
+    teco -v B:=2147483647 in => 1 2147483647
+    teco -v B:=-2147483648 in => 1 -2147483648
+    teco -e EX$$ -v A=b in => 0 [98]
     ";
 
 /// Names, and whose each is: standard input's, standard output's, or both.
@@ -211,6 +273,7 @@ fn gives_what_the_words_say_and_says_how_it_ends(rt: HostRuntime) {
     let alloc = rt.alloc();
     all_hold(&rt, alloc, &Lines::Say, ROWS);
     all_hold(&rt, alloc, &Lines::End, ending::ROWS);
+    all_hold(&rt, alloc, &Values, VALUES);
     all_hold(&rt, alloc, &Names, NAMES);
     all_hold(&rt, alloc, &OnPages, word::ROWS);
     all_hold(&rt, alloc, &Arguments, arguments::ROWS);

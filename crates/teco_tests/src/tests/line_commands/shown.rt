@@ -11,6 +11,7 @@ pub(crate) const ROWS: &str = "
         -p, --pages <STRINGS>    The same, run on each page, and then an exit; the output goes to standard output\n  \
         -f, --file <FILE>        A file of the same kind; the commands are those of each FILE in order, and then those of --execute\n  \
         -b, --bytes <FILE>       The file that the commands are read from, as they are\n  \
+        -v, --assign <A=TEXT>    Puts TEXT into register A before the first string, or by A:=N the number N; may be repeated\n  \
         -o, --output <FILE>      Where the output goes after an exit, - for standard output; without it INPUT.out, or - if INPUT is - or with --pages\n  \
         -i, --in-place           Writes the output over each INPUT\n      \
         --check              Tells the faults of the commands, with their places; runs nothing, and reads no INPUT\n      \
@@ -34,6 +35,7 @@ pub(crate) const ROWS: &str = "
     - teco -e EX$$ -e EX$$ in => => => error: the argument '--execute <STRINGS>' cannot be used multiple times\n\nUsage: teco [OPTIONS] <INPUT>...\n\nFor more information, try '--help'.\n => => 3 => in == hi\n
     - teco -p 0K --pages 0K in => => => error: the argument '--pages <STRINGS>' cannot be used multiple times\n\nUsage: teco [OPTIONS] <INPUT>...\n\nFor more information, try '--help'.\n => => 3 => in == hi\n
     - teco -b in -b in in => => => error: the argument '--bytes <FILE>' cannot be used multiple times\n\nUsage: teco [OPTIONS] <INPUT>...\n\nFor more information, try '--help'.\n => => 3 => in == hi\n
+    - teco -e EX$$ -v Ab in => => => error: invalid value 'Ab' for '--assign <A=TEXT>': expected A=TEXT or A:=N, where A is a letter or a digit, and N a number from -2147483648 to 2147483647\n\nUsage: teco [OPTIONS] <INPUT>...\n\nFor more information, try '--help'.\n => => 3 => in == hi\n
     - teco -e EX$$ -i -o out in => => => error: the argument '--output <FILE>' cannot be used with '--in-place'\n\nUsage: teco [OPTIONS] <INPUT>...\n\nFor more information, try '--help'.\n => => 3 => in == hi\n
     - teco -e EX$$ -o out in in => => => error: the argument '--output <FILE>' cannot be used with more than one INPUT\n\nUsage: teco [OPTIONS] <INPUT>...\n\nFor more information, try '--help'.\n => => 3 => in == hi\n
     - teco in in => => => error: more than one INPUT wants commands from '--execute <STRINGS>', '--pages <STRINGS>', '--file <FILE>' or '--bytes <FILE>'\n\nUsage: teco [OPTIONS] <INPUT>...\n\nFor more information, try '--help'.\n => => 3 => in == hi\n
