@@ -24,11 +24,10 @@ use Rattle.clap.proofs.CallerLemmas.{required_has_value}
 use Rattle.clap.proofs.SimpleLemmas.{plain_fields}
 use Rattle.clap.proofs.WalkLemmas.{first_value-rows, one_text-rows}
 use Rattle.teco_core.specs.declared.limits.TheConstants.{DEPTH_LIMIT}
-use Rattle.teco_cli.specs.CommandLine.{IsCommandsFault, IsFaultSaid, IsTecoError, IsFaultOnceMade, IsLineBy, IsLineFault, IsMisfit, IsReadFault, IsRefusal, IsWordsFault, teco_app}
+use Rattle.teco_cli.specs.CommandLine.{IsCommandsFault, IsFaultSaid, IsTecoError, IsFaultOnceMade, IsLineBy, IsLineFault, IsMisfit, IsReadFault, IsRefusal, IsWordsFault, as_read, teco_app}
 use Rattle.teco_cli.specs.Assignments.{IsNoAssignment}
 use Rattle.teco_cli.specs.Options.{AreMany, HasLine, IsGiven, repeats_commands, option_texts}
 use Rattle.teco_cli.specs.Conflict.{has_conflict}
-use Rattle.teco_cli.specs.Joining.{joined}
 use Rattle.teco_cli.specs.Parsing.{IsErrorOf}
 use Rattle.teco_cli.specs.Refusals.{IsToldAs}
 use Rattle.teco_cli.specs.declared.line.Line.{Line}
@@ -186,7 +185,7 @@ pub by_rows : (P : Option Text → List Text → Option Text → Option Text →
 by_rows P is_word is_files is_pages is_bytes h = rw (is_word, is_files, is_pages, is_bytes) h
 
 -- why a line is refused once the command is made is why it is refused
-pub fault_at_all : (words : List Text) (fault : LineFault) → IsFaultOnceMade (joined words) fault → IsLineFault words fault
+pub fault_at_all : (words : List Text) (fault : LineFault) → IsFaultOnceMade (as_read words) fault → IsLineFault words fault
 fault_at_all words NoMemory h = tt
 fault_at_all words (Refused refusal) h = h
 

@@ -3,6 +3,7 @@ use Rattle.std.proofs.Common.{◌≡◌, ◌++◌, refl, true, false, codes, map
 use Rattle.clap.specs.Words.{Text, all_of, fault_of, first_of, matches_of, one_of, takes}
 use Rattle.clap.specs.declared.error.kind.ErrorKind.TheVariants.{DisplayHelp, InvalidValue, MissingRequiredArgument, TooManyValues, UnknownArgument, ValueValidation}
 use Rattle.clap.proofs.OnLiterals.{clap_on_literals}
+use Rattle.teco_cli.specs.Backups.{backups_after, with_backups}
 use Rattle.teco_cli.specs.CommandLine.{on_pages, teco_app}
 use Rattle.teco_cli.specs.Joining.{joined, joined_after}
 use Rattle.teco_cli.specs.Options.{repeats_commands, option_texts}
@@ -14,6 +15,7 @@ pub record Row : Type 0 where
   pub more : Option (List Text)
   pub output : Option Text
   pub in_place : Option Text
+  pub backup : Option Text
   pub prompt : Option Text
   pub check : Option Text
   pub explain : Option Text
@@ -29,6 +31,7 @@ row_of words = record {
   more = all_of (codes "more") (matches_of teco_app words);
   output = first_of (codes "output") (matches_of teco_app words);
   in_place = one_of (codes "in-place") (matches_of teco_app words);
+  backup = first_of (codes "backup") (matches_of teco_app words);
   prompt = one_of (codes "prompt") (matches_of teco_app words);
   check = one_of (codes "check") (matches_of teco_app words);
   explain = one_of (codes "explain") (matches_of teco_app words);
@@ -46,6 +49,7 @@ plain input = record {
   more = None;
   output = None;
   in_place = Some (codes "false");
+  backup = None;
   prompt = Some (codes "false");
   check = Some (codes "false");
   explain = Some (codes "false");
@@ -246,3 +250,29 @@ joined_words : map joined (
     ∷ []
 unfolding joined_after
 joined_words = refl
+
+-- teco --in-place=.bak a; teco -i.bak a; teco -i a; teco -- --in-place=.bak; teco --in-place=
+backup_words : map with_backups (
+    (codes "teco" ∷ codes "--in-place=.bak" ∷ codes "a" ∷ [])
+    ∷ (codes "teco" ∷ codes "a" ∷ codes "-i.bak" ∷ [])
+    ∷ (codes "teco" ∷ codes "-i" ∷ codes "a" ∷ [])
+    ∷ (codes "teco" ∷ codes "--" ∷ codes "--in-place=.bak" ∷ [])
+    ∷ (codes "teco" ∷ codes "--in-place=" ∷ [])
+    ∷ []) ≡ (codes "teco" ∷ codes "--backup=.bak" ∷ codes "a" ∷ [])
+    ∷ (codes "teco" ∷ codes "a" ∷ codes "--backup=.bak" ∷ [])
+    ∷ (codes "teco" ∷ codes "-i" ∷ codes "a" ∷ [])
+    ∷ (codes "teco" ∷ codes "--" ∷ codes "--in-place=.bak" ∷ [])
+    ∷ (codes "teco" ∷ codes "--backup=" ∷ [])
+    ∷ []
+unfolding backups_after
+backup_words = refl
+
+-- teco --backup=.bak a; teco --backup=.bak --backup .old a
+backups_given : map row_of (
+    (codes "teco" ∷ codes "--backup=.bak" ∷ codes "a" ∷ [])
+    ∷ (codes "teco" ∷ codes "--backup=.bak" ∷ codes "--backup" ∷ codes ".old" ∷ codes "a" ∷ [])
+    ∷ []) ≡ record (plain (codes "a")) { backup = Some (codes ".bak") }
+    ∷ record (plain (codes "a")) { backup = Some (codes ".old") }
+    ∷ []
+unfolding clap_on_literals
+backups_given = refl

@@ -1,4 +1,5 @@
 mod Assigning
+mod BackupWords
 mod CommandRows
 mod Joinings
 mod CommandLines

@@ -10,6 +10,7 @@ use Rattle.clap.specs.declared.error.kind.ErrorKind.TheVariants as kind
 use Rattle.teco_core.specs.declared.ascii.TheConstants.{ESC}
 use Rattle.teco_core.specs.declared.limits.TheConstants.{DEPTH_LIMIT}
 use Rattle.teco_cli.specs.Assignments.{IsNoAssignment}
+use Rattle.teco_cli.specs.Backups.{with_backups}
 use Rattle.teco_cli.specs.Conflict.{has_conflict}
 use Rattle.teco_cli.specs.Joining.{joined}
 use Rattle.teco_cli.specs.Options.{AreMany, HasLine, SaysMany, SaysNoAssignment, option_rules, repeats_commands}
@@ -88,9 +89,13 @@ pub record IsLineBy (words : List Text) (line : Line) : Type 0 where
   -- and what it says goes together
   pub fits : has_conflict line ≡ false
 
--- The line is what the words say, the program's name first: the parser reads them as they are joined.
+-- the words as the parser reads them: joined, and with --backup for a suffix of --in-place
+abbrev pub as_read : List Text → List Text
+as_read words = with_backups (joined words)
+
+-- The line is what the words say, the program's name first.
 abbrev pub IsLine : List Text → Line → Type 0
-IsLine words = IsLineBy (joined words)
+IsLine words = IsLineBy (as_read words)
 
 -- What holds of each line that is taken: its numbers are in their ranges, and nothing in it conflicts.
 pub record IsFit (line : Line) : Type 0 where
@@ -146,7 +151,7 @@ IsFaultSaid why (Refused refusal) = IsFaulty why (codes "teco [OPTIONS] <INPUT>.
 -- Why the words gave no line: memory was refused, or the line is.
 abbrev pub IsLineFault : List Text → LineFault → Type 0
 IsLineFault words NoMemory = ⊤
-IsLineFault words (Refused refusal) = IsRefusal (joined words) refusal
+IsLineFault words (Refused refusal) = IsRefusal (as_read words) refusal
 
 -- The same once the words are joined and the command is made: memory is refused to the program itself only
 -- where the parser takes the words, so a faulty line is never told as that.

@@ -1,11 +1,12 @@
 -- What a line can't say together, though the parser takes it.
-use Rattle.std.specs.Prelude.{Bool, true, false, ◌&&◌, ◌||◌, ◌∷◌, length, is_some, nat_lt}
+use Rattle.std.specs.Prelude.{ℕ, Bool, true, false, not, ◌&&◌, ◌||◌, ◌==◌, List, ◌∷◌, length, is_some, nat_lt, Some, None}
 use Rattle.std.specs.List.{list_any}
 use Rattle.std.specs.String.{string_bytes}
 use Rattle.teco_cli.specs.StreamNames.{is_standard_input}
 use Rattle.teco_cli.specs.declared.line.Commands.{Commands}
 use Rattle.teco_cli.specs.declared.line.Commands.TheVariants.{StandardInput, Sources, Pages, Bytes}
 use Rattle.teco_cli.specs.declared.line.Line.{Line}
+use Prim.Native.Char.{code}
 
 -- one INPUT or more is standard input
 abbrev pub has_standard_input : Line → Bool
@@ -53,7 +54,18 @@ writes_over_a_stream line = line.in_place && has_standard_input line
 abbrev pub checks_awaited : Line → Bool
 checks_awaited line = line.check && are_awaited line.commands
 
+abbrev pub has_slash : List ℕ → Bool
+has_slash text = list_any (λ byte. byte == code "/") text
+
+-- a text that may follow a file's name in the name of another of the same folder: it is not empty, and has no slash
+abbrev pub is_suffix : List ℕ → Bool
+is_suffix text = nat_lt 0 (length text) && not (has_slash text)
+
+-- the old file is to be kept, and what is to follow its name can't
+abbrev pub keeps_under_no_name : Line → Bool
+keeps_under_no_name line = elim line.backup [ Some suffix ↦ not (is_suffix (string_bytes suffix)) | None ↦ false ]
+
 -- The line says one of these: it is faulty.
 abbrev pub has_conflict : Line → Bool
 has_conflict line = has_two_places line || (has_one_place_for_many line || (awaits_for_many line
-    || (shares_standard_input line || (writes_over_a_stream line || checks_awaited line))))
+    || (shares_standard_input line || (writes_over_a_stream line || (checks_awaited line || keeps_under_no_name line)))))

@@ -1,4 +1,5 @@
 pub mod Assignments
+pub mod Backups
 pub mod CommandLine
 pub mod Conflict
 pub mod Joining

@@ -1,6 +1,6 @@
 -- The options of the program: the parser's rules for them, and what a line has of each.
 use Rattle.std.specs.Prelude.{Bool, ◌||◌, nat_lt, length, map, unwrap_or, IfSome, ◌≡◌, ◌≤◌, List, [], ◌∷◌, Option, Some, None, IsTrue, ◌↔◌, codes, true}
-use Rattle.std.specs.Prelude.{false, option_map, is_some}
+use Rattle.std.specs.Prelude.{false, option_map, is_some, ◌⊎◌, if◌then◌else◌}
 use Rattle.std.specs.List.{AllZip, Any, count_by, list_any}
 use Rattle.std.specs.String.{string_bytes}
 use Rattle.clap.specs.Words.{all_of, IsUnsignedIn, Row, Rule, Text, first_of, one_of}
@@ -21,6 +21,7 @@ option_rules = with_texts (codes "execute") (Some 101)
     ∷ with_texts (codes "assign") (Some 118)
     ∷ with_text (codes "output") (Some 111)
     ∷ flag (codes "in-place") (Some 105)
+    ∷ with_text (codes "backup") None
     ∷ flag (codes "check") None
     ∷ with_number (codes "page-lines") None 1 1000000000
     ∷ with_number (codes "limit") None 0 1000000000000
@@ -71,6 +72,14 @@ repeats_commands rows = list_any (λ id. nat_lt 1 (length (option_texts id rows)
 abbrev pub SaysNoAssignment : List Row → Type 0
 SaysNoAssignment rows = Any IsNoAssignment (option_texts (codes "assign") rows)
 
+-- A parse says that the output goes over the input: by the flag, or since the old file is to be kept.
+abbrev pub IsInPlace : List Row → Type 0
+IsInPlace rows = (one_of (codes "in-place") rows ≡ Some (codes "true")) ⊎ (is_some (first_of (codes "backup") rows) ≡ true)
+
+-- what follows a file's name in the name under which its old bytes are kept, if the line keeps them
+abbrev pub suffix_of : Line → Option Text
+suffix_of line = if line.in_place then option_map string_bytes line.backup else None
+
 -- The line has what a parse gives for each argument. `first_of` is an argument's value as text; `one_of` is
 -- its text where it is read as a number or as a flag.
 pub record HasLine (rows : List Row) (line : Line) : Type 0 where
@@ -90,7 +99,9 @@ pub record HasLine (rows : List Row) (line : Line) : Type 0 where
   -- the seconds that a string may run, if they are given
   pub seconds : option_map number_of (one_of (codes "seconds") rows) ≡ line.seconds
   pub prompt : IsTrue line.prompt ↔ (one_of (codes "prompt") rows ≡ Some (codes "true"))
-  pub in_place : IsTrue line.in_place ↔ (one_of (codes "in-place") rows ≡ Some (codes "true"))
+  -- the output goes over the input, and what follows its name in the old file's, if that is kept
+  pub in_place : IsTrue line.in_place ↔ IsInPlace rows
+  pub backup : first_of (codes "backup") rows ≡ option_map string_bytes line.backup
   pub check : IsTrue line.check ↔ (one_of (codes "check") rows ≡ Some (codes "true"))
   pub explain : IsTrue line.explain ↔ (one_of (codes "explain") rows ≡ Some (codes "true"))
   pub quiet : IsTrue line.quiet ↔ (one_of (codes "quiet") rows ≡ Some (codes "true"))

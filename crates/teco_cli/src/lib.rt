@@ -13,7 +13,7 @@ mod words;
 
 pub use assignment::{AssignedValue, Assignment};
 pub use fault::{LineFault, fault_of_words};
-pub use line::{Commands, Line, commands_on_pages, line_of};
+pub use line::{Commands, Line, commands_on_pages, line_of, suffix_of};
 pub use options::{MOST_STEPS, OptionRow, Takes};
 pub(crate) use parsing::command_of;
 pub use parsing::{Program, parsed};

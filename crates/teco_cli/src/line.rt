@@ -1,9 +1,9 @@
 //! The program's command line.
 ghost use Rattle.clap.specs.Words.{app_of, found_of, rows_of};
-ghost use Rattle.std.specs.Prelude.{◌≡◌, ◌≤◌, IfErr, IfOk, IfSome, codes, false, map};
+ghost use Rattle.std.specs.Prelude.{◌≡◌, ◌≤◌, ◌↔◌, IfErr, IfOk, IfSome, IsTrue, codes, false, map};
 ghost use Rattle.std.specs.String.{string_bytes};
 ghost use Rattle.teco_cli.specs.CommandLine.{IsCommandsFault, IsDepth, IsFaultOnceMade, IsFaultSaid, IsStepLimit, IsLine, IsLineBy, IsLineFault, IsMisfit, IsPageLength, IsTime, IsReadFault, teco_app};
-ghost use Rattle.teco_cli.specs.Options.{HasLine, IsCommands, IsGiven, SaysCommands, repeats_commands};
+ghost use Rattle.teco_cli.specs.Options.{HasLine, IsCommands, IsGiven, IsInPlace, SaysCommands, repeats_commands, suffix_of};
 ghost use Rattle.teco_cli.specs.Values.{text_behind, texts_behind};
 ghost use Rattle.teco_cli.specs.Conflict.{has_conflict};
 
@@ -12,6 +12,7 @@ use crate::{
     refusal_of, text_at, text_given, texts_at, texts_given,
 };
 use assigning::assignments_in;
+use backups::with_backups;
 use clap::{ArgMatches, Command};
 use conflict::conflict_in;
 use joining::joined;
@@ -70,6 +71,8 @@ pub struct Line {
     pub seconds: Option<u64>,
     /// Whether the output is written over the input.
     pub in_place: bool,
+    /// What follows the input's name in the name under which the old file is kept then; without it none is kept.
+    pub backup: Option<String>,
     /// Whether the commands are checked, and nothing is run.
     pub check: bool,
     /// Whether a star is shown where commands are wanted.
@@ -153,6 +156,13 @@ fn commands_in<'a>(alloc: Global, matches: &ArgMatches<'a>) -> Result<Commands, 
     commands_of(alloc, word, files, pages, bytes)
 }
 
+/// Whether the output is written over the input, by a parse: it is if the old file is to be kept, too.
+fn is_in_place<'a>(matches: &ArgMatches<'a>) -> bool
+    ensures { IsTrue result ↔ IsInPlace (rows_of (found_of matches.now)) }
+{
+    flag_at(matches, "in-place") || matches.get_str("backup").is_some()
+}
+
 /// The line that a parse gives.
 fn line_in<'a>(alloc: Global, matches: &ArgMatches<'a>) -> Result<Line, LineFault>
     requires given { IsGiven (rows_of (found_of matches.now)) }
@@ -172,7 +182,8 @@ fn line_in<'a>(alloc: Global, matches: &ArgMatches<'a>) -> Result<Line, LineFaul
     let undo = number_at(matches, "undo");
     let page_lines = number_at(matches, "page-lines");
     let prompt = flag_at(matches, "prompt");
-    let in_place = flag_at(matches, "in-place");
+    let in_place = is_in_place(matches);
+    let backup = text_at(alloc, matches, "backup")?;
     let check = flag_at(matches, "check");
     let explain = flag_at(matches, "explain");
     let quiet = flag_at(matches, "quiet");
@@ -186,6 +197,7 @@ fn line_in<'a>(alloc: Global, matches: &ArgMatches<'a>) -> Result<Line, LineFaul
         seconds,
         prompt,
         in_place,
+        backup,
         check,
         explain,
         quiet,
@@ -243,9 +255,19 @@ pub fn line_of(alloc: Global, words: Vec<String>) -> Result<Line, LineFault>
     ensures page_lines { IfOk result (λ line. IfSome line.page_lines IsPageLength) }
     ensures refused { IfErr result (IsLineFault (map string_bytes words.items)) }
 {
-    let made = joined(alloc, words)?;
+    let made = with_backups(alloc, joined(alloc, words)?)?;
     let command = command_of(alloc, program(), options())?;
     line_by(alloc, command, made.as_slice())
+}
+
+/// What follows a file's name in the name under which its old bytes are kept, if the line keeps them.
+pub fn suffix_of(line: &Line) -> Option<&str>
+    ensures { text_behind result ≡ suffix_of line.now }
+{
+    match &line.backup {
+        Some(suffix) if line.in_place => Some(suffix.as_str()),
+        _ => None,
+    }
 }
 
 impl CommandLine for Line {
@@ -269,6 +291,7 @@ impl CommandLine for Line {
 }
 
 mod assigning;
+mod backups;
 mod conflict;
 mod joining;
 mod pages;

@@ -2,7 +2,7 @@
 ghost use Rattle.std.specs.Prelude.{◌≡◌, is_some};
 ghost use Rattle.std.specs.List.{list_any};
 ghost use Rattle.std.specs.String.{string_bytes};
-ghost use Rattle.teco_cli.specs.Conflict.{are_awaited as awaited, are_on_standard_input as on_standard_input, has_conflict, has_more as many, has_standard_input as on_a_stream};
+ghost use Rattle.teco_cli.specs.Conflict.{are_awaited as awaited, are_on_standard_input as on_standard_input, has_conflict, has_more as many, has_slash as has_a_slash, has_standard_input as on_a_stream, is_suffix as may_follow, keeps_under_no_name as under_no_name};
 ghost use Rattle.teco_cli.specs.StreamNames.{is_standard_input as names_standard_input};
 
 use super::{Commands, Line};
@@ -41,6 +41,29 @@ fn has_standard_input(line: &Line) -> bool
     is_standard_input(line.input.as_str()) || one_is_standard_input(&line.more)
 }
 
+fn has_slash(text: &[u8]) -> bool
+    ensures { result ≡ has_a_slash text.now }
+{
+    text.iter().any(|byte| *byte == b'/')
+}
+
+/// Whether this may follow a file's name in the name of another of the same folder.
+fn is_suffix(text: &str) -> bool
+    ensures { result ≡ may_follow text.now }
+{
+    !text.is_empty() && !has_slash(text.as_bytes())
+}
+
+/// Whether the old file is to be kept, and what is to follow its name can't.
+fn keeps_under_no_name(line: &Line) -> bool
+    ensures { result ≡ under_no_name line.now }
+{
+    match &line.backup {
+        Some(suffix) => !is_suffix(suffix.as_str()),
+        None => false,
+    }
+}
+
 /// What is told of a line with a conflict, if it has one.
 pub(crate) fn conflict_in(line: &Line) -> Option<&'static str>
     ensures { is_some result ≡ has_conflict line.now }
@@ -63,6 +86,8 @@ pub(crate) fn conflict_in(line: &Line) -> Option<&'static str>
         Some(
             "the argument '--check' wants commands from '--execute <STRINGS>', '--pages <STRINGS>', '--file <FILE>' or '--bytes <FILE>'",
         )
+    } else if keeps_under_no_name(line) {
+        Some("the suffix of '--in-place=<SUFFIX>' cannot be empty or have a '/'")
     } else {
         None
     }

@@ -8,7 +8,7 @@ use crate::{MOST_STEPS, OptionRow, Takes};
 use teco_core::DEPTH_LIMIT;
 
 /// Every option, in the order of the help, and then the operands.
-static OPTIONS: [OptionRow; 17] = [
+static OPTIONS: [OptionRow; 18] = [
     OptionRow {
         name: "execute",
         short: Some('e'),
@@ -57,6 +57,13 @@ static OPTIONS: [OptionRow; 17] = [
         takes: Takes::Nothing,
         value: "",
         help: "Writes the output over each INPUT",
+    },
+    OptionRow {
+        name: "backup",
+        short: None,
+        takes: Takes::Text,
+        value: "SUFFIX",
+        help: "The same, and keeps the old file as INPUT with SUFFIX after its name; --in-place=SUFFIX says so too, and -i.bak",
     },
     OptionRow {
         name: "check",

@@ -3,8 +3,7 @@ use Rattle.std.proofs.lemmas.Grind.{common_steps}
 use Rattle.std.specs.Prelude.{IfErr}
 use Rattle.std.specs.String.{string_bytes}
 use Rattle.std.proofs.lemmas.Result.{IfErr-weaker}
-use Rattle.teco_cli.specs.CommandLine.{IsFaultOnceMade, teco_rules}
-use Rattle.teco_cli.specs.Joining.{joined}
+use Rattle.teco_cli.specs.CommandLine.{IsFaultOnceMade, as_read, teco_rules}
 use Rattle.teco_cli.proofs.Parses.{app_is}
 use Rattle.teco_cli.proofs.CommandLines.{fault_at_all}
 use Rattle.teco_cli.proofs.line.line_of.Goals as goal
@@ -12,7 +11,7 @@ use Rattle.teco_cli.proofs.line.line_of.Goals as goal
 pub returns-clause-refused : goal.returns-clause-refused
 returns-clause-refused c =
     let words = map (λ x. string_bytes x) c.args.words.items in
-    let same : map (λ x. string_bytes x) c.as_slice.result.now ≡ joined words = search rules in
+    let same : map (λ x. string_bytes x) c.as_slice.result.now ≡ as_read words = search rules in
     IfErr-weaker c.line_by.result _ _ (fault_at_all words) (subst (λ ws. IfErr c.line_by.result (IsFaultOnceMade ws)) same c.line_by.ensures.refused)
 
 -- the program's name and its rows are those of its command
