@@ -1,8 +1,9 @@
 -- The calls of a replacement, one after another, and its moments.
 use Rattle.std.proofs.Common.{◌≡◌, ◌≢◌, ◌⊎◌, inl, inr, ℕ, List, [], ◌++◌, append_assoc, Option, Some, Bool, true, false, Result, Ok, Err, refl, ap, sym, ◌∙◌}
 use Rattle.std.specs.Prelude.{OnOk, OnErr, bytes_eq}
+use Rattle.std.proofs.lemmas.Option.{same_Some}
 use Rattle.std.proofs.lemmas.Slice.Eq.{bytes_eq-Decides}
-use Rattle.teco_fs.specs.Disk.{Appends, Changes, Creates, Files, IsWhole, LeavesFiles, Passes, Removes, Renames, Same, SameBut}
+use Rattle.teco_fs.specs.Disk.{Appends, Changes, Creates, Files, IsKeepingBy, IsWhole, KeepsAs, LeavesFiles, Passes, Removes, Renames, Same, SameBut}
 
 -- at a moment while the draft takes the file's name
 abbrev pub IsRenaming : List ℕ → List ℕ → Files → Files → Type 0
@@ -12,6 +13,16 @@ IsRenaming draft file before now = Same before now ⊎ Renames draft file before
 pub one_of : {A E X Y : Type 0} (result : Result A E) → OnOk result X → OnErr result Y → X ⊎ Y
 one_of (Ok done) ok err = inl ok
 one_of (Err fault) ok err = inr err
+
+-- the file has its other name, or all is as it was
+pub kept_or_same : {file backup : List ℕ} {before now : Files} (temporary : List ℕ) → KeepsAs file backup before now ⊎ Same before now → IsKeepingBy file temporary backup before now
+kept_or_same temporary (inl keeps) = record { backup_is = inr keeps.kept; others = λ name apart other. keeps.others name apart }
+kept_or_same {file} {backup} temporary (inr same) = record { backup_is = inl (same backup); others = λ name apart other. same name }
+
+-- files that are as they were have none more
+pub leaves_none : {A E : Type 0} (old new : Files) (draft : List ℕ) (result : Result A E) → OnErr result (Same old new) → OnErr result (Changes (Some old) (Some new) (LeavesFiles draft))
+leaves_none old new draft (Ok done) same = tt
+leaves_none old new draft (Err fault) same = λ before told. (new, refl, record { files = λ other there. same other ∙ ap (λ files. files other) (same_Some _ _ told); others = λ other apart. same other ∙ ap (λ files. files other) (same_Some _ _ told) })
 
 module _ {name : List ℕ} where
   -- a file that was made, written to and removed again

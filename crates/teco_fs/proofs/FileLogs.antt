@@ -6,7 +6,7 @@ use Rattle.std.proofs.lemmas.Bool.{false_from_ne_true}
 use Rattle.std.proofs.lemmas.List.{drop_more}
 use Rattle.std.proofs.lemmas.Option.{same_Some}
 use Rattle.std.proofs.lemmas.Slice.Eq.{bytes_eq-Decides}
-use Rattle.teco_fs.specs.Disk.{Appends, Creates, Files, Passes, Removes, Renames, SameBut}
+use Rattle.teco_fs.specs.Disk.{Appends, Creates, Files, KeepsAs, Passes, Removes, Renames, SameBut}
 use Rattle.teco_fs.specs.FileLog.{FileNote, GrowsByOne, WereOnce, files_of}
 
 -- the note of a call that gives these bytes to a name, or none, and takes another away
@@ -54,6 +54,12 @@ module _ {old new : List FileNote} where
 
     pub removes : new ≡ noted name name None ∷ old → Removes name (files_of old) (files_of new)
     removes more = record { gone = at_name (noted name name None) more name refl; others = others_noted more }
+
+  pub keeps_as : {file backup : List ℕ} {bytes : Option (List ℕ)} → files_of old file ≡ bytes → new ≡ noted backup backup bytes ∷ old → KeepsAs file backup (files_of old) (files_of new)
+  keeps_as {file} {backup} {bytes} had more = record {
+    kept = at_name (noted backup backup bytes) more backup refl ∙ sym had;
+    others = others_noted more;
+  }
 
   pub renames : {from to : List ℕ} {bytes : Option (List ℕ)} → from ≢ to → files_of old from ≡ bytes → new ≡ noted from to bytes ∷ old → Renames from to (files_of old) (files_of new)
   renames {from} {to} {bytes} apart had more = record {

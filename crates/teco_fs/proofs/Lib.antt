@@ -1,4 +1,5 @@
 pub mod Disks
 pub mod FileLogs
+pub mod Keepings
 pub mod Told
 pub mod Writings

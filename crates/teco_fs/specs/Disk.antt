@@ -43,6 +43,17 @@ pub record Renames (from to : List ℕ) (before after : Files) : Type 0 where
   pub gone : after from ≡ None
   pub others : (name : List ℕ) → name ≢ from → name ≢ to → after name ≡ before name
 
+-- The file has this other name too, and what had that name before is gone. Nothing else has changed.
+pub record KeepsAs (file backup : List ℕ) (before after : Files) : Type 0 where
+  pub kept : after backup ≡ before file
+  pub others : SameBut backup before after
+
+-- At a moment of that there is under the other name what was there before, or what the file has. Under the temporary name there may be
+-- anything.
+pub record IsKeepingBy (file temporary backup : List ℕ) (before now : Files) : Type 0 where
+  pub backup_is : (now backup ≡ before backup) ⊎ (now backup ≡ before file)
+  pub others : (name : List ℕ) → name ≢ backup → name ≢ temporary → now name ≡ before name
+
 -- The file has these bytes, and nothing else has changed.
 pub record Replaces (file bytes : List ℕ) (before after : Files) : Type 0 where
   pub whole : after file ≡ Some bytes

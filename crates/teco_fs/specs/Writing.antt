@@ -81,6 +81,18 @@ pub record IsWriting (file bytes : List ℕ) (before now : Files) : Type 0 where
   pub file_is : (now file ≡ before file) ⊎ (now file ≡ Some bytes)
   pub others : (other : List ℕ) → other ≢ file → (IsDraftOf file other → ⊥) → now other ≡ before other
 
+-- Under the other name there is what the file has. Each other file that was there is as it was. There may be drafts more.
+pub record Keeps (file backup : List ℕ) (before after : Files) : Type 0 where
+  pub kept : after backup ≡ before file
+  pub files : (other : List ℕ) → other ≢ backup → before other ≢ None → after other ≡ before other
+  pub others : (other : List ℕ) → other ≢ backup → (IsDraftOf file other → ⊥) → after other ≡ before other
+
+-- At a moment of that there is under the other name what was there before, or what the file has. Under the names of drafts there may be
+-- anything.
+pub record IsKeeping (file backup : List ℕ) (before now : Files) : Type 0 where
+  pub backup_is : (IsDraftOf file backup → ⊥) → (now backup ≡ before backup) ⊎ (now backup ≡ before file)
+  pub others : (other : List ℕ) → other ≢ backup → (IsDraftOf file other → ⊥) → now other ≡ before other
+
 -- The disk gave the error; or memory was refused for the name of a draft; or each name that was tried is
 -- another's.
 abbrev pub IsWriteError : (Error → Type 0) → Error → Type 0

@@ -4,7 +4,7 @@ ghost use Rattle.std.specs.Prelude.{◌≡◌, ◌≢◌, ◌⊎◌, ◌++◌, �
 ghost use Rattle.std.specs.declared.io.Error.{Error};
 ghost use Rattle.std.specs.declared.io.ErrorKind.{ErrorKind};
 ghost use Rattle.std.specs.Prelude.{[], None, Some, IfOk, IfSome, IsNone, IsSome, true, false};
-ghost use Rattle.teco_fs.specs.Disk.{Appends, Creates, IsStream, IsTargetOf, Opens, Removes, Renames, Same, SameBut};
+ghost use Rattle.teco_fs.specs.Disk.{Appends, Creates, IsKeepingBy, IsStream, IsTargetOf, KeepsAs, LeavesFiles, Opens, Removes, Renames, Same, SameBut};
 ghost use Rattle.teco_fs.specs.State.{DiskState, FilesChange, FilesPass, KeepsFiles, KeepsStreams, KeepsStreamsUntold, Looks, LooksUntold};
 
 use crate::target::Target;
@@ -92,6 +92,14 @@ pub trait Disk {
         requires { is_of draft.now name.now }
         ensures kept { OnOk result ((seen self.new).kept name.now) }
         ensures still { Looks result (seen self.old) (seen self.new) };
+
+    /// Gives the file that was opened last this other name too, in one moment. What had that name before is gone, and the file may have the
+    /// temporary name meanwhile. [`Disk::is_as_read`] says the same of it as before.
+    fn keep(&mut self, file: &str, temporary: &str, backup: &str) -> io::Result<()>
+        ensures ok { OnOk result (FilesChange (seen self.old) (seen self.new) (KeepsAs file.now backup.now)) }
+        ensures err { OnErr result (FilesChange (seen self.old) (seen self.new) (LeavesFiles temporary.now)) }
+        ensures moments { FilesPass (seen self.old) (seen self.new) (IsKeepingBy file.now temporary.now backup.now) }
+        ensures still { KeepsStreams result (seen self.old) (seen self.new) };
 
     /// Gives a file another name, in one moment, if its bytes outlast a crash. What had that name before is gone. Says what the file could
     /// not keep of it.

@@ -4,8 +4,9 @@ ghost use Rattle.std.specs.Prelude.{◌≡◌, ⊤, true, IfOk, None, Some};
 use crate::disk::Disk;
 use crate::draft::{make_like, open_new};
 use crate::failures::Failures;
+use crate::link::link_over;
 use crate::lock::{Lock, hold};
-use crate::target::{Target, append, is_same_file, known, target_of};
+use crate::target::{Target, append, end_of_links, is_same_file, known, target_of};
 use crate::unkept::Unkept;
 use std::fs::{Files, Metadata, OpenFile};
 use std::io::{ErrorKind, Write};
@@ -79,18 +80,43 @@ fn has_same_text(was: &Metadata, now: &Metadata) -> bool {
     was.size() == now.size() && was.mtime() == now.mtime() && was.mtime_nsec() == now.mtime_nsec()
 }
 
-/// Whether both are there, and are the same file, of the same size, which nobody has written to since. A time that was put back shows by
-/// the time at which what is known of the file changed, which nobody can put back.
-fn is_unchanged(was: &Option<Metadata>, now: &Option<Metadata>) -> bool {
-    match (was, now) {
-        (Some(was), Some(now)) => {
-            is_same_file(was, now)
-                && has_same_text(was, now)
-                && was.ctime() == now.ctime()
-                && was.ctime_nsec() == now.ctime_nsec()
-        }
-        _ => false,
+/// Whether both are the same file, of the same size, which nobody has written to since. A time that was put back shows by the time at which
+/// what is known of the file changed, which nobody can put back.
+fn is_unchanged(was: &Metadata, now: &Metadata) -> bool {
+    is_same_file(was, now)
+        && has_same_text(was, now)
+        && was.ctime() == now.ctime()
+        && was.ctime_nsec() == now.ctime_nsec()
+}
+
+/// Whether both are there, and are so.
+fn is_there_unchanged(was: &Option<Metadata>, now: &Option<Metadata>) -> bool {
+    matches!((was, now), (Some(was), Some(now)) if is_unchanged(was, now))
+}
+
+/// Gives the file that was opened last another name too, if it is what it was then. What is known of it is noted anew if nobody has written to
+/// it meanwhile, since a link to a file changes what is known of it.
+fn keep_opened<R: Files + AllocGlobal>(
+    rt: &R,
+    file: &str,
+    temporary: &str,
+    backup: &str,
+    opened: &mut Option<Metadata>,
+) -> io::Result<()>
+where
+    R::File: AsFd,
+{
+    let end = end_of_links(rt, file)?;
+    let was = fs::metadata(rt, end.as_str())?;
+    if !matches!(opened, Some(opened) if is_unchanged(opened, &was)) {
+        return Err(io::Error::from(ErrorKind::ResourceBusy));
     }
+    link_over(rt, end.as_str(), &was, temporary, backup)?;
+    let now = fs::metadata(rt, end.as_str())?;
+    if is_same_file(&was, &now) && has_same_text(&was, &now) {
+        *opened = Some(now);
+    }
+    Ok(())
 }
 
 impl<'a, R: Files> FileDisk<'a, R> {
@@ -125,8 +151,7 @@ impl<'a, R: Files> FileDisk<'a, R> {
         match (&self.opened, &self.replaced) {
             (Some(opened), Some(replaced)) if is_same_file(opened, replaced) => {
                 let file = fs::open(self.rt, name)?;
-                let now = Some(file.metadata()?);
-                if !is_unchanged(&self.opened, &now) {
+                if !is_unchanged(opened, &file.metadata()?) {
                     return Err(io::Error::from(ErrorKind::ResourceBusy));
                 }
                 Ok(Some(file))
@@ -205,7 +230,7 @@ where
         let now = known(self.rt, name);
         match self.failures.counted(now) {
             Ok(now) => {
-                let same = is_unchanged(&self.opened, &now);
+                let same = is_there_unchanged(&self.opened, &now);
                 self.changed = !same;
                 Ok(same)
             }
@@ -244,6 +269,11 @@ where
     fn sync(&mut self, draft: &R::File, _name: &str) -> io::Result<()> {
         let synced = draft.sync_all();
         self.failures.counted(synced)
+    }
+
+    fn keep(&mut self, file: &str, temporary: &str, backup: &str) -> io::Result<()> {
+        let kept = keep_opened(self.rt, file, temporary, backup, &mut self.opened);
+        self.failures.counted(kept)
     }
 
     fn rename(&mut self, from: &str, to: &str) -> io::Result<Option<Unkept>> {

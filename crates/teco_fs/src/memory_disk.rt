@@ -28,6 +28,8 @@ pub enum RefusedCall {
     /// A write, of which half the bytes come.
     Write,
     Sync,
+    /// To give a file another name too.
+    Keep,
     Rename,
     /// A rename, and then that the draft is removed.
     RenameAndRemove,
@@ -197,6 +199,11 @@ impl Disk for MemoryDisk {
             _ => Ok(()),
         };
         self.failures.counted(synced)
+    }
+
+    fn keep(&mut self, file: &str, _temporary: &str, backup: &str) -> io::Result<()> {
+        let kept = self.log.kept(self.refused, file, backup);
+        self.failures.counted(kept)
     }
 
     fn rename(&mut self, from: &str, to: &str) -> io::Result<Option<Unkept>> {

@@ -15,7 +15,7 @@ use std::path::Path;
 use teco_core::NoMemory;
 
 /// How many names are tried for a draft.
-const DRAFTS: u32 = 100;
+pub(crate) const DRAFTS: u32 = 100;
 
 /// Writes the bytes to a draft, and waits until they outlast a crash.
 fn fill<D: Disk>(
@@ -164,7 +164,7 @@ pub fn replace<D: Disk>(
 }
 
 /// The name of a draft: in the folder of the file, of this number, and not the file's.
-fn draft_name(alloc: Global, file: &str, number: u32) -> Result<String, NoMemory>
+pub(crate) fn draft_name(alloc: Global, file: &str, number: u32) -> Result<String, NoMemory>
     ensures named { IfOk result (λ draft. string_bytes draft ≡ draft_beside file.now number) }
     ensures another { IfOk result (λ draft. string_bytes draft ≢ file.now) }
 {

@@ -48,7 +48,7 @@ fn is_descriptor<R: Files>(rt: &R, link: &str) -> io::Result<bool> {
 
 /// The name at the end of the links that begin at this one; the name itself, if it is no link. There may be no file of it. A name that
 /// leads to a descriptor is refused: a file that replaced the descriptor's would not be the one that its other holders write to.
-fn end_of_links<R: Files + AllocGlobal>(rt: &R, name: &str) -> io::Result<String> {
+pub fn end_of_links<R: Files + AllocGlobal>(rt: &R, name: &str) -> io::Result<String> {
     let mut end = String::from_str(rt.alloc(), name)?;
     for _ in 0..LINKS {
         match fs::read_link(rt, end.as_str()) {

@@ -1,7 +1,7 @@
 //! The log of a disk in memory, which tells its files.
 ghost use Rattle.std.specs.Option.{option_copied, option_map};
 ghost use Rattle.std.specs.Prelude.{◌≡◌, ◌≢◌, ◌∷◌, ◌++◌, [], IfOk, OnErr, OnOk, Some};
-ghost use Rattle.teco_fs.specs.Disk.{Appends, Creates, Opens, Removes, Renames, Same, SameBut};
+ghost use Rattle.teco_fs.specs.Disk.{Appends, Creates, KeepsAs, Opens, Removes, Renames, Same, SameBut};
 ghost use Rattle.teco_fs.specs.FileLog.{GrowsByOne, files_of};
 
 use super::RefusedCall;
@@ -204,6 +204,15 @@ impl Log {
     {
         self.written(refused, name, bytes.0)?;
         self.written(refused, name, bytes.1)
+    }
+
+    pub(super) fn kept(&mut self, refused: RefusedCall, file: &str, backup: &str) -> io::Result<()>
+        ensures ok { OnOk result (KeepsAs file.now backup.now (files_of self.old) (files_of self.new)) }
+        ensures err { OnErr result (Same (files_of self.old) (files_of self.new)) }
+        ensures grows { GrowsByOne self.old self.new }
+    {
+        let bytes = self.copied(file)?;
+        self.note(refused == RefusedCall::Keep, backup, backup, Some(bytes))
     }
 
     pub(super) fn renamed(&mut self, refused: RefusedCall, from: &str, to: &str) -> io::Result<()>
