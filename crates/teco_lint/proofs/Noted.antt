@@ -1,11 +1,12 @@
 -- Which registers are noted, of bytes and of their parts.
-use Rattle.std.proofs.Common.{◌≡◌, ℕ, ◌+◌, ◌≤◌, ◌⊎◌, inl, inr, Bool, false, List, [], ◌∷◌, length, drop, min, replicate, sym, ap, ◌∙◌, subst, true≢false, arith}
+use Rattle.std.proofs.Common.{◌≡◌, ℕ, ◌+◌, ◌≤◌, ◌⊎◌, inl, inr, Bool, false, List, [], ◌∷◌, length, drop, min, replicate, sym, ap, ◌∙◌, subst, true, true≢false, arith}
 use Rattle.std.proofs.lemmas.Bool.{cases_lt}
 use Rattle.std.proofs.lemmas.List.{drop_all, drop-drop, get_or-replicate, get_or_past, length-replicate}
 use Rattle.teco_core.specs.declared.code.Code.{Code}
+use Rattle.teco_core.specs.Register.{Content, content}
 use Rattle.teco_scan.specs.Scan.{TokenMeaning, Instruction, found, fault, ended, scan, after_fillers}
 use Rattle.teco_check.specs.Checked.{held}
-use Rattle.teco_lint.specs.Calls.{AnyCalls, AnyCallsWithin, AreCalled, Calls, CallsWithin, MayCall, Notes, register_call, calls_first, calls_later, calls_past_fault, within_first, within_text, within_later, within_past_fault}
+use Rattle.teco_lint.specs.Calls.{AllAreCalled, AnyCalls, AnyCallsWithin, AreCalledOver, Calls, CallsWithin, MayCall, Notes, called_by_register, called_by_string, register_call, calls_first, calls_later, calls_past_fault, within_first, within_text, within_later, within_past_fault}
 use Rattle.teco_lint.specs.Strings.{strings_of}
 
 -- what is noted of one part, and then of another
@@ -128,15 +129,23 @@ none_held n q = elim (cases_lt q n) [
 ]
 
 -- what is noted at first
-pub first_noted : (n : ℕ) (commands : List ℕ) (now : List Bool) → OfStrings (strings_of commands) (replicate n false) now → AreCalled now commands
-first_noted n commands now noted = record {
-  only = λ q h. elim (noted.only q h) [ inl was ↦ absurd (true≢false (sym was ∙ none_held n q)) | inr within ↦ within ];
+pub first_noted : (registers : List Content) (n : ℕ) (commands : List ℕ) (now : List Bool) → OfStrings (strings_of commands) (replicate n false) now → AreCalledOver registers now commands
+first_noted registers n commands now noted = record {
+  only = λ q h. elim (noted.only q h) [ inl was ↦ absurd (true≢false (sym was ∙ none_held n q)) | inr within ↦ called_by_string within ];
   all = noted.all;
 }
 
--- what is noted once more
-pub again_noted : (commands : List ℕ) (before now : List Bool) → AreCalled before commands → OfStrings (strings_of commands) before now → AreCalled now commands
-again_noted commands before now are noted = record {
-  only = λ q h. elim (noted.only q h) [ inl was ↦ are.only q was | inr within ↦ within ];
+-- what is noted once more, after what registers hold
+pub again_noted : (registers : List Content) (commands : List ℕ) (before mid now : List Bool) → AreCalledOver registers before commands
+    → (AllAreCalled registers (strings_of commands) before → AllAreCalled registers (strings_of commands) mid)
+    → OfStrings (strings_of commands) mid now → AreCalledOver registers now commands
+again_noted registers commands before mid now are holds noted = record {
+  only = λ q h. elim (noted.only q h) [ inl was ↦ holds are.only q was | inr within ↦ called_by_string within ];
   all = noted.all;
 }
+
+-- what is noted of a register that is called
+pub register_noted : (registers : List Content) (strings : List (List ℕ)) (p : ℕ) (before now : List Bool) → held before p ≡ true
+    → OfBytes (content registers p).text before now → AllAreCalled registers strings before → AllAreCalled registers strings now
+register_noted registers strings p before now marked noted are =
+    λ q h. elim (noted.only q h) [ inl was ↦ are q was | inr within ↦ called_by_register (are p marked) within ]

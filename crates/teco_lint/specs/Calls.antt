@@ -1,6 +1,7 @@
 -- Which registers commands call.
 use Rattle.std.specs.Prelude.{◌≡◌, ◌⊎◌, ℕ, Bool, true, List, [], ◌∷◌, drop}
 use Rattle.teco_core.specs.declared.code.Code.{Code}
+use Rattle.teco_core.specs.Register.{Content, blank_registers, content}
 use Rattle.teco_scan.specs.declared.command.RegisterCommand.TheVariants.{Macro}
 use Rattle.teco_scan.specs.Scan.{TokenMeaning, Instruction, step, register, set_text, found, fault, scan, after_fillers}
 use Rattle.teco_check.specs.Checked.{held}
@@ -33,11 +34,23 @@ abbrev pub AnyCallsWithin : ℕ → List (List ℕ) → Type 0
 AnyCallsWithin q [] = ⊥
 AnyCallsWithin q (s ∷ ss) = CallsWithin q s ⊎ AnyCallsWithin q ss
 
--- The registers that are marked are those that the commands call. Each is called by a string, or by a text within one. Each that a string
--- calls by a token of its own is marked, also if no run comes to that token.
-pub record AreCalled (marked : List Bool) (commands : List ℕ) : Type 0 where
-  pub only : (q : ℕ) → held marked q ≡ true → AnyCallsWithin q (strings_of commands)
+-- A string calls the register, or a text within one; or so does what a register that is called holds at first, and so on.
+pub data IsCalled (registers : List Content) (strings : List (List ℕ)) : ℕ → Type 0 where
+  called_by_string : {q : ℕ} → AnyCallsWithin q strings → IsCalled registers strings q
+  called_by_register : {p q : ℕ} → IsCalled registers strings p → CallsWithin q (content registers p).text → IsCalled registers strings q
+
+abbrev pub AllAreCalled : List Content → List (List ℕ) → List Bool → Type 0
+AllAreCalled registers strings marked = (q : ℕ) → held marked q ≡ true → IsCalled registers strings q
+
+-- The registers that are marked are those that the commands call, where the registers hold this at first. Each that a string calls by a
+-- token of its own is marked, also if no run comes to that token.
+pub record AreCalledOver (registers : List Content) (marked : List Bool) (commands : List ℕ) : Type 0 where
+  pub only : AllAreCalled registers (strings_of commands) marked
   pub all : (q : ℕ) → AnyCalls q (strings_of commands) → held marked q ≡ true
+
+-- the same where the registers hold nothing at first
+abbrev pub AreCalled : List Bool → List ℕ → Type 0
+AreCalled marked commands = AreCalledOver blank_registers marked commands
 
 -- What is noted of some bytes: the registers that they call, and none but those that they may call. What was noted before stays.
 pub record Notes (calls within : ℕ → Type 0) (before now : List Bool) : Type 0 where

@@ -36,9 +36,13 @@ unfoldable pub misspelt_within : ℕ → List Bool → List ℕ → Bool
 misspelt_within zero code bytes = misspelt_at (λ inside. false) bytes (first_within zero code bytes)
 misspelt_within (suc n) code bytes = misspelt_at (misspelt_within n code) bytes (first_within (suc n) code bytes)
 
--- The string is a misspelt text, where these registers hold code.
+-- The text is misspelt, where these registers hold code.
+abbrev pub is_misspelt_text : List Bool → List ℕ → Bool
+is_misspelt_text code text = misspelt_within MOST_TEXTS code text
+
+-- The string is a misspelt text.
 abbrev pub is_misspelt_string : List Bool → List ℕ → Bool
-is_misspelt_string code string = if is_request string then false else misspelt_within MOST_TEXTS code string
+is_misspelt_string code string = if is_request string then false else is_misspelt_text code string
 
 -- One of the command strings is.
 abbrev pub is_misspelt : List Bool → List ℕ → Bool

@@ -14,9 +14,13 @@ strings_of commands = texts_of commands ++ rest_of commands ∷ []
 abbrev pub is_request : List ℕ → Bool
 is_request string = ends_in_escape string && not (is_run (asks_of string))
 
--- The string is a text with a fault, where these registers hold code.
+-- The text has a fault, where these registers hold code.
+abbrev pub has_fault : List Bool → List ℕ → Bool
+has_fault code text = is_some (first_of code text)
+
+-- The string is a text with a fault.
 abbrev pub is_faulty_string : List Bool → List ℕ → Bool
-is_faulty_string code string = if is_request string then false else is_some (first_of code string)
+is_faulty_string code string = if is_request string then false else has_fault code string
 
 abbrev pub is_faulty : List Bool → List ℕ → Bool
 is_faulty code commands = list_any (is_faulty_string code) (strings_of commands)

@@ -1,13 +1,31 @@
 //! Which registers hold code: those that are called.
-ghost use Rattle.std.specs.Prelude.{◌≡◌, ◌<◌, ◌≤◌, length};
+ghost use Rattle.std.specs.Prelude.{◌≡◌, ◌<◌, ◌≤◌, ℕ, List, length};
 ghost use Rattle.teco_scan.specs.Scan.{register, step};
 ghost use Rattle.teco_scan.specs.Seen.{instruction_in};
-ghost use Rattle.teco_lint.specs.Calls.{AnyCalls, AnyCallsWithin, AreCalled, Calls, CallsWithin, MayCall, Notes, register_call};
+ghost use Rattle.teco_lint.specs.Calls.{AllAreCalled, AnyCalls, AnyCallsWithin, AreCalledOver, Calls, CallsWithin, MayCall, Notes, register_call};
 ghost use Rattle.teco_lint.specs.Strings.{strings_of};
 
 use crate::cutting::string_end;
 use teco_check::{MOST_TEXTS, REGISTERS};
+use teco_core::{Reg, Registers};
 use teco_scan::{Found, Item, RegisterCommand, Token, TokenKind, filler_end, token_at};
+
+/// The register at this place among the registers.
+pub fn register_at(index: usize) -> Reg
+    requires { index < 36 }
+    ensures { result ≡ index }
+{
+    let index = index as u8;
+    let name = if index < 26 {
+        b'A' + index
+    } else {
+        b'0' - 26 + index
+    };
+    match Reg::of(name) {
+        Some(register) => register,
+        None => unreachable!(),
+    }
+}
 
 /// Which registers are called, and which are given a text.
 #[derive(Clone, Copy)]
@@ -75,6 +93,30 @@ impl RegisterUses {
         }
     }
 
+    /// Notes that a register may have a text at first, and what the tokens of that do if the register is called.
+    fn note_register(&mut self, first: &Registers, register: Reg)
+        ensures { (strings : List (List ℕ)) → AllAreCalled first.now strings self.old.called
+            → AllAreCalled first.now strings self.new.called }
+    {
+        let index = register.index();
+        let text = first.text(register);
+        self.given[index] |= !text.is_empty();
+        if !self.called[index] {
+            return;
+        }
+        self.note_text(text, MOST_TEXTS);
+    }
+
+    /// The same of each register.
+    fn note_registers(&mut self, first: &Registers)
+        ensures { (strings : List (List ℕ)) → AllAreCalled first.now strings self.old.called
+            → AllAreCalled first.now strings self.new.called }
+    {
+        'registers: for index in 0..REGISTERS {
+            self.note_register(first, register_at(index));
+        }
+    }
+
     /// The same of each command string, and of what comes after the last.
     fn note_strings(&mut self, commands: &[u8])
         ensures { Notes (λ q. AnyCalls q (strings_of commands.now))
@@ -89,11 +131,11 @@ impl RegisterUses {
     }
 }
 
-/// Which registers the commands call, and which they give a text.
+/// Which registers the commands call, and which have or get a text, where the registers hold this at first.
 ///
-/// A text counts if it is put where code is. So the commands are gone over until no more registers are called.
-pub fn registers_in(commands: &[u8]) -> RegisterUses
-    ensures { AreCalled result.called commands.now }
+/// A text counts if it is put where code is, or if it is there at first. So the commands are gone over until no more registers are called.
+pub fn registers_in(commands: &[u8], first: &Registers) -> RegisterUses
+    ensures { AreCalledOver first.now result.called commands.now }
 {
     let mut registers = RegisterUses {
         called: [false; REGISTERS],
@@ -102,6 +144,7 @@ pub fn registers_in(commands: &[u8]) -> RegisterUses
     registers.note_strings(commands);
     'passes: for _i in 0..REGISTERS {
         let before = registers.called;
+        registers.note_registers(first);
         registers.note_strings(commands);
         if before == registers.called {
             return registers;

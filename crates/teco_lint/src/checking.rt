@@ -1,9 +1,11 @@
 //! Checking commands: their faults and hints, in order.
 ghost use Rattle.std.specs.Prelude.{◌≡◌, false, Bool, IfOk};
+ghost use Rattle.teco_check.specs.Checked.{held};
+ghost use Rattle.teco_check.specs.Clean.{IsClean};
 ghost use Rattle.teco_lint.specs.Told.{IsTold, TellsFirst};
-ghost use Rattle.teco_lint.specs.Calls.{AreCalled};
+ghost use Rattle.teco_lint.specs.Calls.{AreCalled, AreCalledOver};
 ghost use Rattle.teco_lint.specs.Right.{AreRight, IsRightString};
-ghost use Rattle.teco_lint.specs.Strings.{AreTold, is_faulty, is_faulty_string, is_request, strings_of};
+ghost use Rattle.teco_lint.specs.Strings.{AreTold, has_fault, is_faulty, is_faulty_string, is_request, strings_of};
 
 use crate::calling::{RegisterUses, registers_in};
 use crate::cutting::string_end;
@@ -13,8 +15,8 @@ use crate::listing::push_both;
 use crate::remarks::{Hint, Remark};
 use crate::requests::is_request;
 use std::alloc::Global;
-use teco_check::{REGISTERS, fault_of};
-use teco_core::NoMemory;
+use teco_check::{MOST_TEXTS, REGISTERS, fault_of, first_fault_by_tags};
+use teco_core::{NoMemory, Registers};
 use teco_scan::{ends_in_escape, filler_end};
 
 /// What is told of commands.
@@ -57,6 +59,24 @@ fn check_string(
     Ok(true)
 }
 
+/// Checks the text that a register holds at first, where these registers hold code, and tells its faults, from the first on. Says whether
+/// it has one.
+pub fn check_text(
+    alloc: Global,
+    remarks: &mut Vec<Remark>,
+    text: &[u8],
+    code: &[bool; REGISTERS],
+) -> Result<bool, NoMemory>
+    ensures found { IfOk result (λ faulty. faulty ≡ has_fault code.now text.now) }
+    ensures clean { IfOk result (λ faulty. faulty ≡ false → IsClean (held code.now) text.now) }
+{
+    let first = first_fault_by_tags(alloc, text, code, MOST_TEXTS);
+    if let Some(first) = first {
+        push_faults(remarks, alloc, text, 0, code, first)?;
+    }
+    Ok(first.is_some())
+}
+
 /// The hint on bytes after the last pair of ESC, if there is more than fillers.
 fn hint_on_rest(rest: &[u8]) -> Option<Hint> {
     if filler_end(rest, 0) == rest.len() {
@@ -69,17 +89,27 @@ fn hint_on_rest(rest: &[u8]) -> Option<Hint> {
     })
 }
 
-/// Checks commands, each command string and what comes after the last, without running them.
-///
-/// The code registers are those that the commands call. A string is faulty exactly where its first fault is found. Without a faulty
-/// one no string of a run of the commands ends by ILL, IQN, IQC, UTC, BNI or TAG.
+/// Checks commands as [`check_over`] does, where the registers hold nothing at first.
 pub fn check(alloc: Global, commands: &[u8]) -> Result<Advice, NoMemory>
     ensures found { IfOk result (λ advice. advice.is_faulty ≡ is_faulty advice.code commands.now) }
     ensures right { IfOk result (λ advice. advice.is_faulty ≡ false → AreRight advice.code commands.now) }
     ensures code { IfOk result (λ advice. AreCalled advice.code commands.now) }
     ensures told { IfOk result (λ advice. AreTold advice.code advice.remarks.items 0 (strings_of commands.now)) }
 {
-    let registers = registers_in(commands);
+    check_over(alloc, commands, &Registers::new(alloc))
+}
+
+/// Checks commands, each command string and what comes after the last, without running them, where the registers hold this at first.
+///
+/// The code registers are those that the commands call. A string is faulty exactly where its first fault is found. Without a faulty
+/// one no string of a run of the commands ends by ILL, IQN, IQC, UTC, BNI or TAG, if the code registers hold clean texts at first.
+pub fn check_over(alloc: Global, commands: &[u8], first: &Registers) -> Result<Advice, NoMemory>
+    ensures found { IfOk result (λ advice. advice.is_faulty ≡ is_faulty advice.code commands.now) }
+    ensures right { IfOk result (λ advice. advice.is_faulty ≡ false → AreRight advice.code commands.now) }
+    ensures code { IfOk result (λ advice. AreCalledOver first.now advice.code commands.now) }
+    ensures told { IfOk result (λ advice. AreTold advice.code advice.remarks.items 0 (strings_of commands.now)) }
+{
+    let registers = registers_in(commands, first);
     let mut remarks = Vec::new(alloc);
     let mut hinting = Hinting::new();
     let mut faulty = false;

@@ -16,8 +16,9 @@ mod requests;
 mod sentences;
 mod spelling;
 
-pub use checking::{Advice, check};
+pub use calling::register_at;
+pub use checking::{Advice, check, check_over, check_text};
 pub use remarks::{FaultIn, Hint, Remark, What};
 pub use reporting::{report, report_part};
 pub use sentences::show_remark;
-pub use spelling::is_misspelt;
+pub use spelling::{is_misspelt, is_misspelt_text};

@@ -1,8 +1,7 @@
 //! Commands by which a run ends where it comes to a fault of them.
 ghost use Rattle.std.specs.Prelude.{◌≡◌, ◌≤◌, length, drop};
-ghost use Rattle.teco_check.specs.declared.faults.TheConstants.{MOST_TEXTS};
 ghost use Rattle.teco_scan.specs.Scan.{scan};
-ghost use Rattle.teco_lint.specs.Spelling.{is_misspelt, is_misspelt_string, misspelt_within, put_first};
+ghost use Rattle.teco_lint.specs.Spelling.{is_misspelt, is_misspelt_string, is_misspelt_text, put_first};
 
 use crate::cutting::string_end;
 use crate::requests::is_request;
@@ -26,9 +25,10 @@ fn text_put(text: &[u8], at: usize) -> &[u8]
     }
 }
 
-/// Whether the first fault of a text is one by which a run ends, also where it is in a text that is put where code is.
-fn is_misspelt_text(alloc: Global, text: &[u8], code: &[bool; REGISTERS]) -> bool
-    ensures { result ≡ misspelt_within MOST_TEXTS code.now text.now }
+/// Whether the first fault of a text is one by which a run ends, also where it is in a text that is put where code is. These registers hold
+/// code.
+pub fn is_misspelt_text(alloc: Global, text: &[u8], code: &[bool; REGISTERS]) -> bool
+    ensures { result ≡ is_misspelt_text code.now text.now }
 {
     let mut inside = text;
     let mut texts = MOST_TEXTS;

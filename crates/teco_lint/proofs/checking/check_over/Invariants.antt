@@ -4,7 +4,7 @@ use Rattle.teco_lint.specs.declared.remarks.Remark.{Remark}
 use Rattle.teco_lint.specs.Told.{IsTold}
 use Rattle.teco_lint.specs.Right.{IsRightString}
 use Rattle.teco_lint.specs.Strings.{AreTold, is_faulty, is_faulty_string, strings_of}
-use Rattle.teco_lint.proofs.checking.check.Given as goal
+use Rattle.teco_lint.proofs.checking.check_over.Given as goal
 
 -- If the remarks that come tell of the strings that are left, and keep what was told, they tell of all.
 abbrev pub invariant-loop-end : goal.invariant-loop-end

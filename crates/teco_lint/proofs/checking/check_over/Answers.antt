@@ -5,7 +5,7 @@ use Rattle.teco_lint.specs.Strings.{is_faulty_string, strings_of}
 use Rattle.teco_lint.proofs.Cuts.{one_more, last_one, whole_held}
 use Rattle.teco_lint.proofs.Rights.{are_right, one_right}
 use Rattle.teco_lint.proofs.Told.{told_later, one_told, last_told}
-use Rattle.teco_lint.proofs.checking.check.Goals as goal
+use Rattle.teco_lint.proofs.checking.check_over.Goals as goal
 
 pub loop-end-preserved : goal.loop-end-preserved
 loop-end-preserved c =
