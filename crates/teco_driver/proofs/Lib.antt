@@ -4,3 +4,5 @@ pub mod Runs
 pub mod Streamed
 pub mod Doings
 pub mod CommandSources
+pub mod Parts
+pub mod PageFits

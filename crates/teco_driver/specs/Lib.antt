@@ -3,6 +3,7 @@ pub mod Checks
 pub mod CheckedRuns
 pub mod Runs
 pub mod Seen
+pub mod Paging
 pub mod Run
 pub mod Sources
 pub mod Given

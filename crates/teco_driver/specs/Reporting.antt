@@ -7,7 +7,6 @@ use Rattle.teco_core.specs.Ascii.{is_filler}
 use Rattle.teco_core.specs.Register.{Content}
 use Rattle.teco_core.specs.declared.code.Code.{Code}
 use Rattle.teco_cli.specs.Conflict.{are_awaited}
-use Rattle.teco_cli.specs.declared.line.Commands.{Commands}
 use Rattle.teco_cli.specs.declared.line.Commands.TheVariants.{StandardInput, Sources, Pages, Bytes}
 use Rattle.teco_cli.specs.declared.line.Line.{Line}
 use Rattle.teco_exec.specs.declared.place.Call.{Call}

@@ -1,6 +1,6 @@
 -- A run over one input of the line: what it reads, serves and writes, and how it ends.
 use Rattle.teco_io.specs.declared.source.Source.{Ghosts as SourceView}
-use Rattle.std.specs.Prelude.{◌≡◌, ◌≢◌, ◌⊎◌, ◌||◌, ◌&&◌, not, ⊤, ℕ, ◌+◌, ◌*◌, List, [], length, codes, Option, Some, None, unwrap_or, Bool, IsTrue, true, false, if◌then◌else◌}
+use Rattle.std.specs.Prelude.{◌≡◌, ◌≢◌, ◌⊎◌, ◌||◌, ◌&&◌, not, ⊤, ℕ, ◌+◌, ◌*◌, List, [], length, codes, Option, Some, None, Bool, IsTrue, true, false, if◌then◌else◌}
 use Rattle.std.specs.Str.{bytes_eq}
 use Rattle.std.specs.String.{string_bytes}
 use Rattle.teco_io.specs.Terminal.{IsFrontOf, Screen, Shows}
@@ -16,6 +16,7 @@ use Rattle.teco_io.specs.Input.{IsFaultOf}
 use Rattle.teco_fs.specs.Refusing.{Tells}
 use Rattle.teco_serve.specs.Exchange.{allowance}
 use Rattle.teco_serve.specs.Serving.{Serves}
+use Rattle.teco_driver.specs.Paging.{is_on_pages, page_lines_of}
 use Rattle.teco_driver.specs.Seen.{CommandsSeen, InputSeen, OutputSeen, RunSeen}
 use Rattle.teco_fs.specs.Console.{TerminalSeen, terminal_seen}
 use Rattle.teco_fs.specs.Reading.{IsInput, IsStreamed}
@@ -31,8 +32,6 @@ use Rattle.teco_serve.specs.declared.fate.Fate.TheVariants.{NoCommands, NoInput,
 use Rattle.teco_serve.specs.declared.fate.Fate.TheVariants.{Changed, Unchanged, Lacking}
 use Rattle.teco_serve.specs.declared.fate.Fate.TheVariants.{Ended}
 use Rattle.teco_io.specs.declared.input.InputFault.{InputFault}
-use Rattle.teco_cli.specs.declared.line.Commands.{Commands}
-use Rattle.teco_cli.specs.declared.line.Commands.TheVariants.{StandardInput, Sources, Pages, Bytes}
 use Rattle.teco_cli.specs.declared.line.Line.{Line}
 use Rattle.teco_scan.specs.Stream.{asks_history}
 use Rattle.teco_serve.specs.declared.served.Served.{Served}
@@ -80,12 +79,6 @@ abbrev pub replaces_input : Line → Bool
 replaces_input line = line.in_place
     || (elim line.output [ Some name ↦ bytes_eq (string_bytes name) (string_bytes line.input) | None ↦ false ])
 
-abbrev pub is_on_pages : Commands → Bool
-is_on_pages StandardInput = false
-is_on_pages (Sources names word) = false
-is_on_pages (Pages word) = true
-is_on_pages (Bytes name) = false
-
 -- Some string of these commands may be undone: a text of them asks for an undo, a redo or a rewind. If the line is to be explained, its
 -- strings are kept too, since they are told of. Strings for every page are never undone.
 abbrev pub wants_history : Line → List ℕ → Bool
@@ -97,9 +90,9 @@ abbrev pub depth_of : Line → List ℕ → Option ℕ
 depth_of line commands =
     elim line.undo [ Some depth ↦ Some depth | None ↦ (if wants_history line commands then None else Some 0) ]
 
--- the history that a run over this input begins with: its pages end after as many lines too as the line says
+-- the history that a run over this input begins with
 abbrev pub history_over : Line → Option ℕ → List ℕ → History
-history_over line depth input = new_paged_history (unwrap_or line.page_lines 0) depth input
+history_over line depth input = new_paged_history (page_lines_of line input) depth input
 
 -- The most steps that a string may take over an input of so many bytes: as many as the line says. If it says no number they are a
 -- million, and a thousand more for each byte if an option gives the commands.

@@ -18,6 +18,7 @@ ghost use Rattle.teco_session.specs.Kept.{history_of};
 
 use crate::fates::{fate_written, no_output};
 use crate::host::Host;
+use crate::paging::page_lines_of;
 use crate::reading::{input_at, input_of};
 use std::alloc::Global;
 use std::mem::ManuallyDrop;
@@ -159,7 +160,7 @@ fn work_over(
     ensures history { IfOk result (λ work. history_of work.session ≡ history_over line.now depth input.items) }
 {
     let to = output_name(alloc, line, name)?;
-    let lines = line.page_lines.unwrap_or(0) as usize;
+    let lines = page_lines_of(line, input.as_slice());
     let session = Session::with_pages(input, lines, depth)?;
     Ok(Work { session, to })
 }

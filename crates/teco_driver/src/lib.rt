@@ -9,6 +9,7 @@ mod fates;
 mod giving;
 mod host;
 mod looking;
+mod paging;
 mod placing;
 mod reading;
 mod reporter;
@@ -23,6 +24,7 @@ pub use checked::checked_laws;
 pub(crate) use concluding::{NO_MEMORY, conclude, no_memory};
 pub(crate) use giving::{Feed, edit_given, feed_of};
 pub use host::Host;
+pub use paging::paging_laws;
 pub use running::program;
 pub(crate) use sources::{
     CommandsFault, ReadSource, ReadSources, commands_given, decline, source_name,

@@ -20,6 +20,7 @@ mod disk;
 mod ending;
 mod input;
 mod inputs;
+mod large;
 mod limits;
 mod line;
 mod reader_source;
@@ -92,8 +93,8 @@ fn status_of_tecol<A>(
     tecol_driver::program(alloc, words, 7, source, to, told, disk)
 }
 
-/// Whether a run of `teco` or `tecol` over these files ends so, and types, tells, notes and leaves what its row says.
-fn runs_on(alloc: Global, disk: MemoryDisk, cells: &Cells, after: &str) -> bool {
+/// The files after a run of `teco` or `tecol` over these; none if it doesn't end so, or doesn't type, tell and note what its row says.
+fn files_after(alloc: Global, disk: MemoryDisk, cells: &Cells) -> Option<MemoryDisk> {
     let words = if is(cells[8], "no words") {
         Err(LineFault::NoMemory)
     } else {
@@ -115,12 +116,12 @@ fn runs_on(alloc: Global, disk: MemoryDisk, cells: &Cells, after: &str) -> bool 
     } else {
         program(alloc, words, &mut host, &mut told, &mut noted)
     };
-    status == ExitCode::from(number_or(cells[5], 0).min(255) as u8)
+    let held = status == ExitCode::from(number_or(cells[5], 0).min(255) as u8)
         && is_typed(&host.terminal, cells[2])
         && is_typed(&told, cells[3])
         && is_typed(&noted, cells[4])
-        && is_unread(&mut host.commands, commands)
-        && has_just(&host.disk, after)
+        && is_unread(&mut host.commands, commands);
+    if held { Some(host.disk) } else { None }
 }
 
 /// The call that is refused, by the first letter of what a row says: that which reads, makes, writes or keeps, puts a draft in its place, or
@@ -194,7 +195,10 @@ impl Rule for Runs {
             cells[7]
         };
         let disk = disk_with(alloc, cells[6], cells[8]);
-        runs_on(alloc, disk, &cells, after)
+        match files_after(alloc, disk, &cells) {
+            Some(disk) => has_just(&disk, after),
+            None => false,
+        }
     }
 }
 
