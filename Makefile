@@ -148,6 +148,7 @@ install: all
 	    $(INSTALL) -m 644 out/completions/$$name.fish '$(DESTDIR)$(FISHDIR)'/$$name.fish || exit 1; \
 	done
 	$(INSTALL) -m 755 frontends/screen/teco-tutor '$(DESTDIR)$(BINDIR)/teco-tutor'
+	$(INSTALL) -m 644 docs/teco-tutor.1 '$(DESTDIR)$(MANDIR)/teco-tutor.1'
 	$(INSTALL) -m 644 out/teco.7 '$(DESTDIR)$(LANGUAGEDIR)/teco.7'
 	$(INSTALL) -m 644 out/libteco_c.a '$(DESTDIR)$(LIBDIR)/libteco_c.a'
 	$(INSTALL) -m 644 bindings/c/teco.h '$(DESTDIR)$(INCLUDEDIR)/teco.h'
@@ -165,7 +166,7 @@ uninstall:
 	    rm -f '$(DESTDIR)$(BINDIR)'/$$name '$(DESTDIR)$(MANDIR)'/$$name.1 '$(DESTDIR)$(BASHDIR)'/$$name \
 	        '$(DESTDIR)$(ZSHDIR)'/_$$name '$(DESTDIR)$(FISHDIR)'/$$name.fish || exit 1; \
 	done
-	rm -f '$(DESTDIR)$(BINDIR)/teco-tutor' '$(DESTDIR)$(LANGUAGEDIR)/teco.7' '$(DESTDIR)$(LIBDIR)/libteco_c.a' '$(DESTDIR)$(INCLUDEDIR)/teco.h' '$(DESTDIR)$(PCDIR)/teco.pc'
+	rm -f '$(DESTDIR)$(BINDIR)/teco-tutor' '$(DESTDIR)$(MANDIR)/teco-tutor.1' '$(DESTDIR)$(LANGUAGEDIR)/teco.7' '$(DESTDIR)$(LIBDIR)/libteco_c.a' '$(DESTDIR)$(INCLUDEDIR)/teco.h' '$(DESTDIR)$(PCDIR)/teco.pc'
 	for file in $(TOP_PAGES) $(PAGES) $(EXAMPLES); do rm -f '$(DESTDIR)$(DOCDIR)'/$$file || exit 1; done
 	for folder in docs examples ''; do rmdir '$(DESTDIR)$(DOCDIR)'/$$folder 2> /dev/null || true; done
 
