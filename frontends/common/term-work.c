@@ -238,7 +238,7 @@ enum fate work_write(struct work *work, char *why, size_t size)
     if (fate == CHANGED_FILE)
         (void)snprintf(why, size, "%s has changed since it was read: EX once more replaces it.", work->output);
     else
-        (void)snprintf(why, size, "cannot write %s: %s.", work->output, reason != 0 ? strerror(reason) : "no reason is told");
+        (void)snprintf(why, size, "cannot write %s: %s.", work->output, reason != 0 ? strerror(reason) : "the system gives no reason");
     return fate == CHANGED_FILE ? CHANGED_FILE : GOES_ON;
 }
 

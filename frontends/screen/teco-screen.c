@@ -22,7 +22,7 @@ static const struct program PROGRAM = {
             "\n"
             "Options:\n"
             "      --limit <N>      The most steps that each command string may take, at most 1000000000000; 1000000 without it\n"
-            "      --output <FILE>  Where the output goes after an exit; INPUT.out where it is not given\n"
+            "      --output <FILE>  Where the output goes after an exit; INPUT.out without it\n"
             "      --undo <N>       The most command strings kept to be undone, at most 100000; all without it\n"
             "  -h, --help           Print help\n"
             "  -V, --version        Print version\n"
