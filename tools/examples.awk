@@ -16,6 +16,8 @@
 # A row of a table with four columns has commands in the third, and in the fourth the words that they type, perhaps over INPUT of `one`,
 # `two` and `three`, a page each, where its first column has a star after it; in TOUR.md over the four lines of its file.
 # In FROM.md a row of three columns has a line for the shell and the STRINGS of `teco -p` that do the same, over the block ```text of the page.
+# In README.md a row of two columns has a line for the shell that makes `cat` of the last `dog` of the file f.
+# In LANGUAGE.md `COMMANDS` prints `TEXT`, or `types`, or with a code `is`, over the same three pages.
 # In a man page, .Dl .. teco .. -e 'COMMANDS' .. comes after comments .\" before, .\" after and .\" typed, each with a text as printf reads it.
 # Another line after .Dl is one for the shell where comments .\" file NAME or .\" left NAME come before it, and perhaps .\" status N.
 
@@ -106,6 +108,7 @@ function row(    columns, k, count) {
     count = split($0, columns, "|")
     for (k in columns) gsub("\001", "\\|", columns[k])
     if (count == 5 && page == "FROM.md" && code(columns[4]) != "") pair(columns)
+    if (count == 4 && page == "README.md" && code(columns[3]) ~ / f$/) last_dog(code(columns[3]))
     if (count != 6 || code(columns[4]) == "") return
     begin("")
     put("row", "")
@@ -118,6 +121,54 @@ function row(    columns, k, count) {
     }
     if (code(columns[4]) ~ /EX\$\$$/) { has_after = 1; put("written", "") }
     finish()
+}
+
+# A line for the shell, over the file f.
+function last_dog(line,    name) {
+    begin("")
+    put("line", line "\n")
+    put("file/f", "a dog, a dog\na dog, a dog.\n")
+    put("left/f", "a dog, a dog\na dog, a cat.\n")
+    name = line
+    sub(/ .*/, "", name)
+    if (name != "teco") put("needs", name)
+    put("shell", "")
+    put("status", "0")
+    folder = ""
+}
+
+# The commands of a sentence, and what it says that they print.
+function spoken(commands, texts) {
+    sub(/^`/, "", commands)
+    sub(/`.*/, "", commands)
+    gsub(/\\\|/, "|", commands)
+    if (commands !~ /(\$\$|=)$/) return
+    if (commands !~ /\$\$$/) commands = commands "$$"
+    gsub(/^[^`]*`|`$/, "", texts)
+    gsub(/`(, | and )`/, " ", texts)
+    begin("")
+    put("row", "")
+    put("commands", commands "\n")
+    put("typed", texts "\n")
+    put("before", "one\n^Ltwo\n^Lthree\n")
+    finish()
+}
+
+function sentences(    line, part, rest, said) {
+    said = " (prints|types|is) "
+    for (line = $0; match(line, "`[^`]+`(, with A at 0,)?" said "`[^`]+`((, | and )`[^`]+`)*"); line = rest) {
+        part = substr(line, RSTART, RLENGTH)
+        rest = substr(line, RSTART + RLENGTH)
+        # the commands of the next one
+        if (rest ~ "^" said) {
+            match(part, /(, | and )`[^`]+`$/)
+            rest = substr(part, RSTART) rest
+            part = substr(part, 1, RSTART - 1)
+        }
+        if (rest ~ /^ three times/) continue
+        match(part, said)
+        spoken(part, substr(part, RSTART + RLENGTH))
+    }
 }
 
 function printf_text(name) {
@@ -188,6 +239,7 @@ folder && /^\* / && kind == "session" {
 }
 folder { append($0); next }
 block && /\*Trap \([^)]*\):\*/ { trapped() }
+page == "LANGUAGE.md" { sentences() }
 /^\|/ { row() }
 /^\.\\" (before|after|typed|file|left) / { printf_text($2) }
 /^\.\\" status / { held_status = $3 }

@@ -2,7 +2,7 @@
 
 pub(super) const EXAMPLES: &str = "
     // Keep one field of a CSV file
-    Y<.-Z;.UBS,$QB,.KS,$R.UCL-A-10\"ER'QC,.KL>EX$$ => => one\ntwo\n => 1,one,x\n2,two,y\n => exit
+    Y<.-Z;.UB<::S\x0e`[\x11,,\n]$;>::S,$\"S.UC<::S\x0e`[\x11,,\n]$;>::S,$\"S.-1UDL-A-10\"ER'QD,.KQB,QCK''L>EX$$ => => one\ntwo\n => 1,one,x\n2,two,y\n => exit
     // Cut the bytes 3 to 5 out of each line
     Y<.-Z;.UBL-A-10\"ER'.-QB-4\"GQBJ2C3D'L>EX$$ => => abfg\nabc\n12\n => abcdefg\nabc\n12345\n => exit
     // Insert a comma after the third byte

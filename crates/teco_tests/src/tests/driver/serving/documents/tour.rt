@@ -16,5 +16,5 @@ pub(super) const EXAMPLES: &str = "
     // 7. Back and forth
     Y<J0UN<.-Z;%N\\I. $L>-1-\x0e;P>$$HT$$2{$$2}$$HT$$2{$$13~$$HT$${$${$${$$ => **1. Buy bread\n2. Buy eggs\n***1. Buy bread\n2. Buy eggs\n***1. Buy milk\nCall Anna\n***?NTU\n* => ? => Buy milk\nCall Anna\n\x0cBuy bread\nBuy eggs\n => prompt
     // 8. When it goes wrong
-    YSeggs$T$$FSmilk$beer$$.=$$JFSmilk$beer$$0TT$$99J$$1\"G3=$$EX$$ => *\n*?SRH\n*0\n**Buy beer\n*?POP\n*3\n?UTC\n* => Buy beer\nBuy eggs\n => Buy milk\nBuy eggs\n => prompt exit
+    YSeggs$T$$FSmilk$beer$$.=$$JFSmilk$beer$$0TT$$99J$$1\"G3=$$EX$$ => *\n*?SRH\n*0\n**Buy beer\n*?POP\n*3\n?UTC\n* => Buy beer\nBuy eggs\nCall Anna\nBuy bread\n => Buy milk\nBuy eggs\nCall Anna\nBuy bread\n => prompt exit
     ";
