@@ -1,5 +1,5 @@
 -- Strings that are right, run over states whose code registers hold clean texts.
-use Rattle.std.proofs.Common.{◌≡◌, ℕ, zero, suc, ◌-◌, List, [], ◌∷◌, ◌++◌, take, drop, Bool, true, false, Option, Some, None, refl, sym, subst, ◌∙◌, inl, inr, replicate}
+use Rattle.std.proofs.Common.{◌≡◌, ℕ, zero, suc, ◌-◌, List, [], ◌∷◌, ◌++◌, take, drop, Bool, true, false, Option, Some, None, refl, sym, subst, ◌∙◌, inl, inr}
 use Rattle.std.specs.Prelude.{slice_index_or}
 use Rattle.std.specs.Bool.{MatchBool}
 use Rattle.std.specs.List.{AllByRecursion}
@@ -11,12 +11,11 @@ use Rattle.teco_exec.specs.StringMeaning.{string_meaning}
 use Rattle.teco_exec.specs.declared.outcome.Outcome.{Outcome}
 use Rattle.teco_check.specs.Checked.{held}
 use Rattle.teco_check.specs.CleanRuns.{HoldsCode, IsRight, NeverFaults, is_static}
-use Rattle.teco_check.specs.Clean.{IsClean, clean_within, is_clean}
+use Rattle.teco_check.specs.Clean.{clean_within, is_clean}
 use Rattle.teco_scan.specs.Lists.{list_at, list_within}
 use Rattle.teco_scan.specs.Scan.{after_fillers, scan}
-use Rattle.teco_core.specs.Register.{Content, blank, content}
 use Rattle.teco_session.specs.Answers.{answer_code, is_refused, string_outcome}
-use Rattle.teco_session.specs.History.{History, NotedString, appended, note_at, noted, new_paged_history, present, redone, rewound, state_after, undone, without_first}
+use Rattle.teco_session.specs.History.{History, NotedString, appended, history_from, note_at, noted, present, redone, rewound, state_after, undone, without_first}
 use Rattle.teco_session.specs.Step.{Reply, Step, RunStep, UndoStep, RedoStep, RewindStep}
 use Rattle.teco_session.specs.declared.request.Answer.{Answer}
 use Rattle.teco_session.specs.declared.request.Answer.TheVariants.{Ended, NotBegun, AfterExit, Undone, NothingToUndo, Redone, NothingToRedo, Rewound}
@@ -246,25 +245,17 @@ exchanges_safe code allowed old (x ∷ xs) new nothing right s h =
     let done : AreSafe code x.replies x.after = does_safe code allowed x.asked x.before x.replies x.after nothing right.0 before h.1 in
     (done.told, exchanges_safe code allowed x.after xs new nothing right.1 done.history h.2)
 
--- nothing is a clean text, and so at first each register holds one
+-- nothing is a clean text
 nothing_clean : (code : ℕ → Bool) → clean_within 1 code [] ≡ true
 unfolding clean_within is_clean list_at list_within scan after_fillers
 nothing_clean code = refl
 
-blank_at : (n q : ℕ) → content (replicate n blank) q ≡ blank
-blank_at zero q = refl
-blank_at (suc n) zero = refl
-blank_at (suc n) (suc q) = blank_at n q
-
-first_safe : (code : List Bool) (lines : ℕ) (depth : Option ℕ) (input : List ℕ) → IsSafeHistory code (new_paged_history lines depth input)
-first_safe code lines depth input = record {
-  first = λ q h. subst (λ (c : Content). IsClean (held code) c.text) (sym (blank_at 36 q)) (1, nothing_clean (held code));
-  notes = tt;
-}
+first_safe : (code : List Bool) (first : State) (depth : Option ℕ) → HoldsCode (held code) first.registers → IsSafeHistory code (history_from depth first)
+first_safe code first depth holds = record { first = holds; notes = tt }
 
 pub never_answers : (allowed : Allowance) → NeverFaults → NeverAnswersFault allowed
-never_answers allowed never code commands right lines depth input exchanges new first done =
+never_answers allowed never code commands right state holds depth exchanges new first done =
     let asked : AllByRecursion (IsRightIfRun code) (asked_in exchanges) =
     all_front (IsRightIfRun code) (asked_in exchanges) first.0 (subst (λ (asks : List Asks). AllByRecursion (IsRightIfRun code) asks) first.1 right) in
-    exchanges_safe code allowed (new_paged_history lines depth input) exchanges new
-    (λ s limit holds. never (held code) [] s limit (1, nothing_clean (held code)) holds) asked (first_safe code lines depth input) done
+    exchanges_safe code allowed (history_from depth state) exchanges new
+    (λ s limit clean. never (held code) [] s limit (1, nothing_clean (held code)) clean) asked (first_safe code state depth holds) done

@@ -6,3 +6,4 @@ pub mod Doings
 pub mod CommandSources
 pub mod Parts
 pub mod PageFits
+pub mod FirstValues

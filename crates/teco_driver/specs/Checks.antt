@@ -1,13 +1,17 @@
 -- A check of commands, which are not run: what is told of them, and with which status. And a look at commands before they are run.
 use Rattle.std.specs.Prelude.{◌≡◌, ◌⊎◌, ◌||◌, ℕ, List, Bool, codes, false, true, Result, Ok, Err, if◌then◌else◌}
 use Rattle.std.specs.String.{string_bytes}
-use Rattle.teco_lint.specs.Calls.{AreCalled}
+use Rattle.teco_check.specs.Checked.{held}
+use Rattle.teco_check.specs.CleanRuns.{HoldsCode}
+use Rattle.teco_lint.specs.Calls.{AreCalled, AreCalledOver}
 use Rattle.teco_lint.specs.Right.{AreRight}
-use Rattle.teco_lint.specs.Spelling.{is_misspelt}
-use Rattle.teco_lint.specs.Strings.{is_faulty}
+use Rattle.teco_lint.specs.Spelling.{is_misspelt, is_misspelt_text}
+use Rattle.teco_lint.specs.Strings.{has_fault, is_faulty}
 use Rattle.teco_driver.specs.Given.{come_as_wanted}
 use Rattle.teco_cli.specs.declared.line.Commands.{Commands}
 use Rattle.teco_cli.specs.declared.line.Commands.TheVariants.{StandardInput, Sources, Pages, Bytes}
+use Rattle.teco_cli.specs.declared.line.Line.{Line}
+use Rattle.teco_driver.specs.Values.{hold_wrong, registers_of}
 use Rattle.teco_serve.specs.Ending.{said}
 use Rattle.teco_source.specs.Source.{commands_of}
 use Rattle.teco_fs.specs.Refusing.{Tells}
@@ -29,15 +33,28 @@ SaysAlone wrong (Sources names word) says = says ≡ false
 SaysAlone wrong (Pages word) says = SaysOfSource wrong (commands_of (string_bytes word)) says
 SaysAlone wrong (Bytes name) says = says ≡ false
 
--- It says whether these commands of a line are wrong in this way: all together, or strings for every page by themselves.
-abbrev pub SaysOfLine : (List Bool → List ℕ → Bool) → Commands → List ℕ → Bool → Type 0
-SaysOfLine wrong commands bytes says = (alone all : Bool) × SaysAlone wrong commands alone × SaysOf wrong bytes all
-    × (says ≡ (alone || all))
+-- It says whether a text of commands is wrong in this way, or one that a register of code has from the line is in that way.
+abbrev pub SaysOfAll : (wrong wrong_text : List Bool → List ℕ → Bool) → Line → List ℕ → Bool → Type 0
+SaysOfAll wrong wrong_text line bytes says = (code : List Bool) × AreCalledOver (registers_of line) code bytes
+    × (says ≡ (wrong code bytes || hold_wrong (wrong_text code) code (registers_of line)))
 
--- Each text that a run of the commands reads runs as one without a fault, where the registers hold code that the commands call. By
--- `checked_laws` none then ends by a code of a fault.
-abbrev pub RunWithoutFault : List ℕ → Type 0
-RunWithoutFault commands = (code : List Bool) × AreCalled code commands × AreRight code commands
+-- It says whether these commands of a line are wrong so: all together with the line's texts, or strings for every page by themselves.
+abbrev pub SaysOfLine : (wrong wrong_text : List Bool → List ℕ → Bool) → Line → List ℕ → Bool → Type 0
+SaysOfLine wrong wrong_text line bytes says = (alone all : Bool) × SaysAlone wrong line.commands alone
+    × SaysOfAll wrong wrong_text line bytes all × (says ≡ (alone || all))
+
+-- whether they have a fault; and whether they have one by which a run ends
+abbrev pub SaysFaulty : Line → List ℕ → Bool → Type 0
+SaysFaulty line bytes says = SaysOfLine is_faulty has_fault line bytes says
+
+abbrev pub SaysMisspelt : Line → List ℕ → Bool → Type 0
+SaysMisspelt line bytes says = SaysOfLine is_misspelt is_misspelt_text line bytes says
+
+-- Each text that a run of the commands reads runs as one without a fault, where the registers hold code that the commands call. At first
+-- these hold clean texts. By `checked_laws` none then ends by a code of a fault.
+abbrev pub RunWithoutFault : Line → List ℕ → Type 0
+RunWithoutFault line commands = (code : List Bool) × AreCalledOver (registers_of line) code commands × AreRight code commands
+    × HoldsCode (held code) (registers_of line)
 
 -- 2 if there is a fault, else 0
 abbrev pub status_of_check : Bool → ℕ
@@ -45,11 +62,11 @@ status_of_check faulty = if faulty then 2 else 0
 
 -- The lines of the check are put on the terminal, and nothing is told on standard error. The status says whether there is a
 -- fault; if not, the commands run without one.
-pub record ShowsVerdict {T E : Type 0} (screen : T → Screen) (commands : Commands) (bytes : List ℕ) (old new : T)
+pub record ShowsVerdict {T E : Type 0} (screen : T → Screen) (line : Line) (bytes : List ℕ) (old new : T)
     (told telling : E) (status : ℕ) : Type 0 where
   pub faulty : Bool
-  pub verdict : SaysOfLine is_faulty commands bytes faulty
-  pub right : faulty ≡ false → RunWithoutFault bytes
+  pub verdict : SaysFaulty line bytes faulty
+  pub right : faulty ≡ false → RunWithoutFault line bytes
   pub status_is : status ≡ status_of_check faulty
   pub lines : List ℕ
   pub shown : Shows (screen old) (screen new) lines false
@@ -68,20 +85,20 @@ pub record LosesVerdict {T E : Type 0} (screen : T → Screen) (errors : E → S
   pub status_is : status ≡ 1
   pub told_is : Tells (errors told) (errors telling) (said (codes "cannot show"))
 
--- What a check finds in these commands is told.
-abbrev pub TellsVerdict : {T E : Type 0} → (T → Screen) → (E → Screen) → Commands → List ℕ → T → T → E → E → ℕ → Type 0
-TellsVerdict screen errors commands bytes old new told telling status =
-    ShowsVerdict screen commands bytes old new told telling status
+-- What a check finds in these commands of the line is told.
+abbrev pub TellsVerdict : {T E : Type 0} → (T → Screen) → (E → Screen) → Line → List ℕ → T → T → E → E → ℕ → Type 0
+TellsVerdict screen errors line bytes old new told telling status =
+    ShowsVerdict screen line bytes old new told telling status
     ⊎ (LacksVerdict errors old new told telling status
     ⊎ LosesVerdict screen errors old new told telling status)
 
--- Commands of sources are looked at before they run. They may, if none of their strings is misspelt.
-abbrev pub MayRun : Commands → List ℕ → Type 0
-MayRun commands bytes = come_as_wanted commands ≡ false → SaysOfLine is_misspelt commands bytes false
+-- Commands of sources are looked at before they run, with the texts that the line puts where code is. They may, if none is misspelt.
+abbrev pub MayRun : Line → List ℕ → Type 0
+MayRun line bytes = come_as_wanted line.commands ≡ false → SaysMisspelt line bytes false
 
--- A string of them is misspelt: lines that say so are told on standard error, and the status is 3. Or memory is refused to the
--- look, and that is told.
-abbrev pub AreRejected : Commands → List ℕ → Screen → Screen → ℕ → Type 0
-AreRejected commands bytes old new status = (come_as_wanted commands ≡ false)
-    × (((status ≡ 3) × SaysOfLine is_misspelt commands bytes true × ((lines : List ℕ) × Tells old new lines))
+-- A string of them is misspelt, or such a text: lines that say so are told on standard error, and the status is 3. Or memory is refused
+-- to the look, and that is told.
+abbrev pub AreRejected : Line → List ℕ → Screen → Screen → ℕ → Type 0
+AreRejected line bytes old new status = (come_as_wanted line.commands ≡ false)
+    × (((status ≡ 3) × SaysMisspelt line bytes true × ((lines : List ℕ) × Tells old new lines))
     ⊎ ((status ≡ 1) × Tells old new (said (codes "no memory"))))

@@ -10,3 +10,4 @@ pub mod Given
 pub mod Places
 pub mod Reporting
 pub mod Reported
+pub mod Values

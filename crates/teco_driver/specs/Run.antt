@@ -8,7 +8,9 @@ use Rattle.teco_cli.specs.Conflict.{are_awaited}
 use Rattle.teco_cli.specs.StreamNames.{is_standard_output}
 use Rattle.std.specs.declared.io.Error.{Error}
 use Rattle.teco_core.specs.declared.limits.TheConstants.{FILE_LIMIT}
-use Rattle.teco_session.specs.History.{History, new_paged_history, present}
+use Rattle.teco_session.specs.History.{History, history_from, present}
+use Rattle.teco_store.specs.State.{State, paged_beginning}
+use Rattle.teco_driver.specs.Values.{registers_of}
 use Rattle.teco_fs.specs.declared.unkept.Unkept.{Unkept}
 use Rattle.teco_fs.specs.Disk.{Changes, Files, IsStream, Opens, Passes, SameBut}
 use Rattle.teco_serve.specs.Ending.{fate_without_input, output_of, said, status_of, text_of}
@@ -90,9 +92,13 @@ abbrev pub depth_of : Line → List ℕ → Option ℕ
 depth_of line commands =
     elim line.undo [ Some depth ↦ Some depth | None ↦ (if wants_history line commands then None else Some 0) ]
 
--- the history that a run over this input begins with
+-- the state that a run over this input begins in: its registers hold what the line puts there
+abbrev pub first_state : Line → List ℕ → State
+first_state line input = record (paged_beginning (page_lines_of line input) input) { registers = registers_of line }
+
+-- the history that it begins with
 abbrev pub history_over : Line → Option ℕ → List ℕ → History
-history_over line depth input = new_paged_history (page_lines_of line input) depth input
+history_over line depth input = history_from depth (first_state line input)
 
 -- The most steps that a string may take over an input of so many bytes: as many as the line says. If it says no number they are a
 -- million, and a thousand more for each byte if an option gives the commands.

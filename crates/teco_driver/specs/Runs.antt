@@ -71,8 +71,8 @@ pub record RunsInOrder {D I S A T E : Type 0} (view : HostView D I S T) (errors 
 abbrev pub RunsIfSpelt : {D I S A T E : Type 0} → HostView D I S T → (E → Screen) → Line → List ℕ → Host S A T D × E
     → Host S A T D × E → ℕ → Type 0
 RunsIfSpelt view errors line bytes old new status =
-    ((new.0 ≡ old.0) × AreRejected line.commands bytes (errors old.1) (errors new.1) status)
-    ⊎ (MayRun line.commands bytes × RunsInOrder view errors line bytes (inputs_of line) old new status)
+    ((new.0 ≡ old.0) × AreRejected line bytes (errors old.1) (errors new.1) status)
+    ⊎ (MayRun line bytes × RunsInOrder view errors line bytes (inputs_of line) old new status)
 
 -- Any other line: its commands are had once, before any input is read, and no file changes by that. If they can't be had,
 -- no more is done, and that is told; else each of its inputs is run over, unless they are misspelt.
@@ -97,7 +97,7 @@ pub record ChecksLine {D I S A T E : Type 0} (disk : D → DiskSeen I) (stream :
       × LacksCommands stream line.commands (disk old.disk) (disk new.disk) old.commands new.commands fault
       × Declines line.commands fault (errors told) (errors telling) status)
       ⊎ ((bytes : List ℕ) × IsGivenBy stream line.commands (disk old.disk).files old.commands new.commands bytes
-      × TellsVerdict screen errors line.commands bytes old.terminal new.terminal told telling status)
+      × TellsVerdict screen errors line bytes old.terminal new.terminal told telling status)
 
 -- A line that asks for no check is run over, and one that asks for it is checked alone.
 abbrev pub RunsOrChecks : {D I S A T E : Type 0} → HostView D I S T → (E → Screen) → Line → Host S A T D → Host S A T D → E

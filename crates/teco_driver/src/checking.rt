@@ -10,7 +10,7 @@ ghost use Rattle.teco_fs.specs.Seen.{disk_seen};
 use crate::verdict::verdict_on;
 use crate::{Host, ReadSources, commands_given, decline, no_memory};
 use std::alloc::Global;
-use teco_cli::{Commands, Line};
+use teco_cli::Line;
 use teco_fs::Disk;
 use teco_io::{Source, Terminal, TerminalFault};
 
@@ -30,18 +30,18 @@ fn cannot_show<E: Terminal>(errors: &mut E) -> u8
     1
 }
 
-/// Tells what a check finds in the commands of a line, and gives the status.
+/// Tells what a check finds in these commands of a line, and gives the status.
 fn tell_verdict<T: Terminal, E: Terminal>(
     alloc: Global,
-    commands: &Commands,
+    line: &Line,
     parts: &ReadSources,
     bytes: &[u8],
     term: &mut T,
     errors: &mut E,
 ) -> u8
-    ensures { TellsVerdict T.screen E.screen commands.now bytes.now term.old term.new errors.old errors.new result }
+    ensures { TellsVerdict T.screen E.screen line.now bytes.now term.old term.new errors.old errors.new result }
 {
-    let Ok(verdict) = verdict_on(alloc, commands, parts, bytes, true) else {
+    let Ok(verdict) = verdict_on(alloc, line, parts, bytes, true) else {
         return no_memory(errors);
     };
     match term.put(verdict.lines.as_bytes()) {
@@ -72,7 +72,7 @@ pub fn check_line<S: Source, A, T: Terminal, E: Terminal, D: Disk>(
     ) {
         Ok(bytes) => tell_verdict(
             alloc,
-            &line.commands,
+            line,
             &parts,
             bytes.as_slice(),
             &mut host.terminal,

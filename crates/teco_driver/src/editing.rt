@@ -19,6 +19,7 @@ ghost use Rattle.teco_session.specs.Kept.{history_of};
 use crate::fates::{fate_written, no_output};
 use crate::host::Host;
 use crate::paging::page_lines_of;
+use crate::put_values;
 use crate::reading::{input_at, input_of};
 use std::alloc::Global;
 use std::mem::ManuallyDrop;
@@ -29,7 +30,7 @@ use teco_io::{Source, Terminal, TerminalFault};
 use teco_scan::asks_history;
 use teco_serve::{Alarm, Bounds, Fate, Listens, Manner, Served, Settings, output_name, serve};
 use teco_session::Session;
-use teco_store::Desk;
+use teco_store::{Desk, Editor};
 
 /// Whether a string of these commands, which are had whole, may be undone, or is told of.
 fn wants_history(line: &Line, commands: &[u8]) -> bool
@@ -146,7 +147,7 @@ struct Work {
     to: String,
 }
 
-/// Makes a session over an input, with pages by the line and so many strings kept, and the name of its output.
+/// Makes a session over an input, with pages and values by the line and so many strings kept, and the name of its output.
 fn work_over(
     alloc: Global,
     line: &Line,
@@ -161,7 +162,9 @@ fn work_over(
 {
     let to = output_name(alloc, line, name)?;
     let lines = page_lines_of(line, input.as_slice());
-    let session = Session::with_pages(input, lines, depth)?;
+    let mut editor = Editor::with_page_lines(input, lines);
+    put_values(alloc, &line.values, &mut editor)?;
+    let session = Session::over(editor, depth)?;
     Ok(Work { session, to })
 }
 

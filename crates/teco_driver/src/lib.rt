@@ -17,6 +17,7 @@ mod reporting;
 mod running;
 mod several;
 mod sources;
+mod values;
 mod verdict;
 mod word_source;
 
@@ -29,4 +30,5 @@ pub use running::program;
 pub(crate) use sources::{
     CommandsFault, ReadSource, ReadSources, commands_given, decline, source_name,
 };
+pub(crate) use values::put_values;
 pub(crate) use word_source::WordSource;

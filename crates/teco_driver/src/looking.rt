@@ -6,7 +6,7 @@ ghost use Rattle.teco_driver.specs.Checks.{AreRejected, MayRun};
 use crate::verdict::verdict_on;
 use crate::{ReadSources, no_memory};
 use std::alloc::Global;
-use teco_cli::Commands;
+use teco_cli::{Commands, Line};
 use teco_core::NoMemory;
 use teco_io::Terminal;
 
@@ -17,24 +17,25 @@ fn come_as_wanted(commands: &Commands) -> bool
     matches!(commands, Commands::StandardInput | Commands::Bytes(_))
 }
 
-/// Looks at the commands of sources, which are had whole. If a string is misspelt, tells its faults and gives the status.
+/// Looks at the commands of sources, which are had whole, and at the texts that the line puts where code is. If one is misspelt, tells its
+/// faults and gives the status.
 ///
 /// Commands as they are, of standard input or a file, are not looked at. They may be a record, which has each fault that was typed.
 pub(crate) fn status_if_misspelt<E: Terminal>(
     alloc: Global,
-    commands: &Commands,
+    line: &Line,
     parts: &ReadSources,
     bytes: &[u8],
     errors: &mut E,
 ) -> Option<u8>
-    ensures rejected { IfSome result (AreRejected commands.now bytes.now (E.screen errors.old) (E.screen errors.new)) }
-    ensures may_run { IfNone result (MayRun commands.now bytes.now) }
+    ensures rejected { IfSome result (AreRejected line.now bytes.now (E.screen errors.old) (E.screen errors.new)) }
+    ensures may_run { IfNone result (MayRun line.now bytes.now) }
     ensures silent { IfNone result (errors.new ≡ errors.old) }
 {
-    if come_as_wanted(commands) {
+    if come_as_wanted(&line.commands) {
         return None;
     }
-    let Ok(verdict) = verdict_on(alloc, commands, parts, bytes, false) else {
+    let Ok(verdict) = verdict_on(alloc, line, parts, bytes, false) else {
         return Some(no_memory(errors));
     };
     if verdict.is_misspelt {

@@ -179,7 +179,7 @@ pub fn edit_all<S: Source, A: Alarm, T: Terminal, E: Terminal, N: Terminal, D: D
         Err(fault) => return decline(alloc, commands, fault, errors),
     };
     let bytes = bytes.as_slice();
-    if let Some(status) = status_if_misspelt(alloc, commands, &parts, bytes, errors) {
+    if let Some(status) = status_if_misspelt(alloc, line, &parts, bytes, errors) {
         return status;
     }
     edit_whole(alloc, line, &parts, bytes, host, errors, notes)

@@ -1,17 +1,28 @@
 //! What a check finds in the commands of a line.
-ghost use Rattle.std.specs.Prelude.{◌≡◌, IfOk, false};
-ghost use Rattle.teco_lint.specs.Spelling.{is_misspelt};
-ghost use Rattle.teco_lint.specs.Strings.{is_faulty};
-ghost use Rattle.teco_driver.specs.Checks.{RunWithoutFault, SaysOfLine, SaysAlone, SaysOf};
+ghost use Rattle.std.specs.Prelude.{◌≡◌, ◌&&◌, IfOk, false, true};
+ghost use Rattle.teco_core.specs.Register.{content};
+ghost use Rattle.teco_check.specs.Checked.{held};
+ghost use Rattle.teco_check.specs.Clean.{IsClean};
+ghost use Rattle.teco_check.specs.CleanRuns.{HoldsCode};
+ghost use Rattle.teco_lint.specs.Spelling.{is_misspelt, is_misspelt_text};
+ghost use Rattle.teco_lint.specs.Strings.{has_fault, is_faulty};
+ghost use Rattle.teco_driver.specs.Checks.{RunWithoutFault, SaysAlone, SaysFaulty, SaysMisspelt, SaysOf, SaysOfAll};
+ghost use Rattle.teco_driver.specs.Values.{hold_wrong};
 
 use crate::placing::byte_places;
-use crate::{ReadSources, source_name};
+use crate::{ReadSources, put_values, source_name};
 use std::alloc::Global;
-use teco_cli::Commands;
-use teco_core::NoMemory;
-use teco_lint::{Advice, Remark, What, check, is_misspelt, report, report_part};
+use teco_check::REGISTERS;
+use teco_cli::{Commands, Line};
+use teco_core::{NoMemory, Reg, Registers};
+use teco_lint::{
+    Advice, Remark, What, check, check_over, check_text, is_misspelt, is_misspelt_text,
+    register_at, report, report_part,
+};
+use teco_messages::letter;
 use teco_scan::Span;
 use teco_source::{ReaderFault, beginnings, commands as commands_of};
+use teco_store::{Desk, Editor};
 
 /// What a check tells, whether it found a fault, and whether it found one by which a run ends.
 #[derive(Drop)]
@@ -79,28 +90,100 @@ fn faults_of(alloc: Global, advice: &Advice) -> Result<Vec<Remark>, NoMemory> {
     Ok(faults)
 }
 
-/// Checks all the commands of a line. Hints are told if they are wanted.
-fn verdict_on_all(
+/// The lines that tell of a check of the commands of a line, without the hints if these aren't wanted.
+fn lines_by(
     alloc: Global,
     commands: &Commands,
     parts: &ReadSources,
     bytes: &[u8],
+    advice: &Advice,
     hints: bool,
+) -> Result<String, NoMemory> {
+    if hints {
+        return lines_of(alloc, commands, parts, bytes, &advice.remarks);
+    }
+    lines_of(alloc, commands, parts, bytes, &faults_of(alloc, advice)?)
+}
+
+/// Checks the text that a register has at first, if it holds code.
+fn verdict_on_register(
+    alloc: Global,
+    first: &Registers,
+    register: Reg,
+    code: &[bool; REGISTERS],
 ) -> Result<Verdict, NoMemory>
-    ensures faulty { IfOk result (λ verdict. SaysOf is_faulty bytes.now verdict.is_faulty) }
-    ensures misspelt { IfOk result (λ verdict. SaysOf is_misspelt bytes.now verdict.is_misspelt) }
-    ensures right { IfOk result (λ verdict. verdict.is_faulty ≡ false → RunWithoutFault bytes.now) }
+    ensures faulty { IfOk result (λ verdict. verdict.is_faulty
+        ≡ (held code.now register && has_fault code.now (content first.now register).text)) }
+    ensures misspelt { IfOk result (λ verdict. verdict.is_misspelt
+        ≡ (held code.now register && is_misspelt_text code.now (content first.now register).text)) }
+    ensures right { IfOk result (λ verdict. verdict.is_faulty ≡ false
+        → held code.now register ≡ true → IsClean (held code.now) (content first.now register).text) }
 {
-    let advice = check(alloc, bytes)?;
-    let lines = if hints {
-        lines_of(alloc, commands, parts, bytes, &advice.remarks)?
-    } else {
-        lines_of(alloc, commands, parts, bytes, &faults_of(alloc, &advice)?)?
-    };
+    if !code[register.index()] {
+        return Ok(unchecked(alloc));
+    }
+    let text = first.text(register);
+    let mut faults = Vec::new(alloc);
+    let is_faulty = check_text(alloc, &mut faults, text, code)?;
+    let letter = letter(register);
+    let name = format!(in alloc; "--assign {letter}")?;
+    Ok(Verdict {
+        lines: report(alloc, name.as_str(), text, None, text, &faults)?,
+        is_faulty,
+        is_misspelt: is_misspelt_text(alloc, text, code),
+    })
+}
+
+/// Checks the texts that registers of code have at first.
+fn verdict_on_registers(
+    alloc: Global,
+    first: &Registers,
+    code: &[bool; REGISTERS],
+) -> Result<Verdict, NoMemory>
+    ensures faulty { IfOk result (λ verdict. verdict.is_faulty ≡ hold_wrong (has_fault code.now) code.now first.now) }
+    ensures misspelt { IfOk result (λ verdict. verdict.is_misspelt
+        ≡ hold_wrong (is_misspelt_text code.now) code.now first.now) }
+    ensures right { IfOk result (λ verdict. verdict.is_faulty ≡ false → HoldsCode (held code.now) first.now) }
+{
+    let mut lines = String::new(alloc);
+    let mut is_faulty = false;
+    let mut is_misspelt = false;
+    'registers: for index in 0..REGISTERS {
+        let one = verdict_on_register(alloc, first, register_at(index), code)?;
+        lines.push_str(one.lines.as_str())?;
+        is_faulty |= one.is_faulty;
+        is_misspelt |= one.is_misspelt;
+    }
     Ok(Verdict {
         lines,
-        is_faulty: advice.is_faulty,
-        is_misspelt: is_misspelt(alloc, bytes, &advice.code),
+        is_faulty,
+        is_misspelt,
+    })
+}
+
+/// Checks all the commands of a line, and the texts that it puts where code is. Hints are told if they are wanted.
+fn verdict_on_all(
+    alloc: Global,
+    line: &Line,
+    parts: &ReadSources,
+    bytes: &[u8],
+    hints: bool,
+) -> Result<Verdict, NoMemory>
+    ensures faulty { IfOk result (λ verdict. SaysOfAll is_faulty has_fault line.now bytes.now verdict.is_faulty) }
+    ensures misspelt { IfOk result (λ verdict. SaysOfAll is_misspelt is_misspelt_text line.now bytes.now verdict.is_misspelt) }
+    ensures right { IfOk result (λ verdict. verdict.is_faulty ≡ false → RunWithoutFault line.now bytes.now) }
+{
+    let mut editor = Editor::new(Vec::new(alloc));
+    put_values(alloc, &line.values, &mut editor)?;
+    let first = editor.registers();
+    let advice = check_over(alloc, bytes, first)?;
+    let texts = verdict_on_registers(alloc, first, &advice.code)?;
+    let mut lines = lines_by(alloc, &line.commands, parts, bytes, &advice, hints)?;
+    lines.push_str(texts.lines.as_str())?;
+    Ok(Verdict {
+        lines,
+        is_faulty: advice.is_faulty | texts.is_faulty,
+        is_misspelt: is_misspelt(alloc, bytes, &advice.code) | texts.is_misspelt,
     })
 }
 
@@ -164,21 +247,21 @@ fn verdict_alone(alloc: Global, commands: &Commands) -> Result<Verdict, NoMemory
     }
 }
 
-/// Checks the commands of a line, and strings for every page by themselves before. Hints are told if they are wanted, unless those
+/// Checks these commands of a line, and strings for every page by themselves before. Hints are told if they are wanted, unless those
 /// strings are misspelt.
 pub(crate) fn verdict_on(
     alloc: Global,
-    commands: &Commands,
+    line: &Line,
     parts: &ReadSources,
     bytes: &[u8],
     hints: bool,
 ) -> Result<Verdict, NoMemory>
-    ensures faulty { IfOk result (λ verdict. SaysOfLine is_faulty commands.now bytes.now verdict.is_faulty) }
-    ensures misspelt { IfOk result (λ verdict. SaysOfLine is_misspelt commands.now bytes.now verdict.is_misspelt) }
-    ensures right { IfOk result (λ verdict. verdict.is_faulty ≡ false → RunWithoutFault bytes.now) }
+    ensures faulty { IfOk result (λ verdict. SaysFaulty line.now bytes.now verdict.is_faulty) }
+    ensures misspelt { IfOk result (λ verdict. SaysMisspelt line.now bytes.now verdict.is_misspelt) }
+    ensures right { IfOk result (λ verdict. verdict.is_faulty ≡ false → RunWithoutFault line.now bytes.now) }
 {
-    let alone = verdict_alone(alloc, commands)?;
-    let all = verdict_on_all(alloc, commands, parts, bytes, hints)?;
+    let alone = verdict_alone(alloc, &line.commands)?;
+    let all = verdict_on_all(alloc, line, parts, bytes, hints)?;
     Ok(Verdict {
         is_faulty: alone.is_faulty | all.is_faulty,
         is_misspelt: alone.is_misspelt | all.is_misspelt,

@@ -9,7 +9,7 @@ returns-in-Ok g c = record {
   tells = inr (
     c.in-Ok.bytes.items,
     c.in-Ok.ensures.given,
-    subst (λ (bytes : List ℕ). TellsVerdict g.T.Terminal.screen g.E.Terminal.screen c.args.line.now.commands bytes c.args.host.now.terminal c.tell_verdict.new.term c.args.errors.now c.tell_verdict.new.errors c.tell_verdict.result)
+    subst (λ (bytes : List ℕ). TellsVerdict g.T.Terminal.screen g.E.Terminal.screen c.args.line.now bytes c.args.host.now.terminal c.tell_verdict.new.term c.args.errors.now c.tell_verdict.new.errors c.tell_verdict.result)
         c.as_slice.ensures.value c.tell_verdict.ensures,
   );
 }

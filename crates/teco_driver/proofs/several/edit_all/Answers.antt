@@ -64,7 +64,7 @@ returns-clause-run g c =
     let old : Host g.row.S.Denot g.row.A.Denot g.row.T.Denot g.row.D.Denot × g.row.E.Denot = (mid, c.args.errors.now) in
     let new : Host g.row.S.Denot g.row.A.Denot g.row.T.Denot g.row.D.Denot × g.row.E.Denot = (c.edit_whole.new.host, c.edit_whole.new.errors) in
     let silent : c.status_if_misspelt.new.errors ≡ c.args.errors.now = first_of (search rules, cc, grind (arith, common_steps)) in
-    let may : MayRun line.commands c.as_slice-bytes.result.now = first_of (search rules, grind (arith, common_steps)) in
+    let may : MayRun line c.as_slice-bytes.result.now = first_of (search rules, grind (arith, common_steps)) in
     let runs : RunsInOrder view g.E.Terminal.screen line c.as_slice-bytes.result.now (inputs_of line) old new c.edit_whole.result =
     subst (λ (told : g.row.E.Denot). let from : Host g.row.S.Denot g.row.A.Denot g.row.T.Denot g.row.D.Denot × g.row.E.Denot = (mid, told) in
     RunsInOrder view g.E.Terminal.screen line c.as_slice-bytes.result.now (inputs_of line) from new c.edit_whole.result) silent c.edit_whole.ensures.run in
