@@ -4,3 +4,4 @@ pub(crate) mod explained;
 pub(crate) mod manners;
 pub(crate) mod shown;
 pub(crate) mod sources;
+pub(crate) mod values;

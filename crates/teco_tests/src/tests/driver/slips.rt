@@ -103,7 +103,15 @@ const OPTIONS: &str = "
     - teco --limit 1000000000001 -p D f => => => error: invalid value '1000000000001' for '--limit <N>': 1000000000001 is not in 0..=1000000000000\n\nFor more information, try '--help'.\n => => 3 => f == old one\nold two\n
     - teco --undo 100001 -p D f => => => error: invalid value '100001' for '--undo <N>': 100001 is not in 1..=100000\n\nFor more information, try '--help'.\n => => 3 => f == old one\nold two\n
     - teco --page-lines 0 -p D f => => => error: invalid value '0' for '--page-lines <N>': 0 is not in 1..=1000000000\n\nFor more information, try '--help'.\n => => 3 => f == old one\nold two\n
-    - teco --seconds 1s -p D f => => => error: invalid value '1s' for '--seconds <N>': invalid digit found in string\n\nFor more information, try '--help'.\n => => 3 => f == old one\nold two\n";
+    - teco --seconds 1s -p D f => => => error: invalid value '1s' for '--seconds <N>': invalid digit found in string\n\nFor more information, try '--help'.\n => => 3 => f == old one\nold two\n
+    - // Values of no register.
+    - teco -v AB=x -p D f => => => error: invalid value 'AB=x' for '--assign <A=TEXT>': expected A=TEXT or A:=N, where A is a letter or a digit, and N a number from -2147483648 to 2147483647\n\nUsage: teco [OPTIONS] <INPUT>...\n\nFor more information, try '--help'.\n => => 3 => f == old one\nold two\n
+    - teco -v A -p D f => => => error: invalid value 'A' for '--assign <A=TEXT>': expected A=TEXT or A:=N, where A is a letter or a digit, and N a number from -2147483648 to 2147483647\n\nUsage: teco [OPTIONS] <INPUT>...\n\nFor more information, try '--help'.\n => => 3 => f == old one\nold two\n
+    - teco -v A:=x -p D f => => => error: invalid value 'A:=x' for '--assign <A=TEXT>': expected A=TEXT or A:=N, where A is a letter or a digit, and N a number from -2147483648 to 2147483647\n\nUsage: teco [OPTIONS] <INPUT>...\n\nFor more information, try '--help'.\n => => 3 => f == old one\nold two\n
+    - teco -v A:=2147483648 -p D f => => => error: invalid value 'A:=2147483648' for '--assign <A=TEXT>': expected A=TEXT or A:=N, where A is a letter or a digit, and N a number from -2147483648 to 2147483647\n\nUsage: teco [OPTIONS] <INPUT>...\n\nFor more information, try '--help'.\n => => 3 => f == old one\nold two\n
+    - teco -v ?=x -p D f => => => error: invalid value '?=x' for '--assign <A=TEXT>': expected A=TEXT or A:=N, where A is a letter or a digit, and N a number from -2147483648 to 2147483647\n\nUsage: teco [OPTIONS] <INPUT>...\n\nFor more information, try '--help'.\n => => 3 => f == old one\nold two\n
+    - teco -v -i -p D f => => => error: invalid value '-i' for '--assign <A=TEXT>': expected A=TEXT or A:=N, where A is a letter or a digit, and N a number from -2147483648 to 2147483647\n\nUsage: teco [OPTIONS] <INPUT>...\n\nFor more information, try '--help'.\n => => 3 => f == old one\nold two\n
+    - teco -p D f -v => => => error: a value is required for '--assign <A=TEXT>' but none was supplied\n\nFor more information, try '--help'.\n => => 3 => f == old one\nold two\n";
 
 /// The tables. Past the last there are no rows.
 fn table(at: usize) -> &'static str {

@@ -1,0 +1,34 @@
+//! What a line puts into registers before the first string.
+
+pub(crate) const ROWS: &str = "
+    - // A text and a number. The bytes after = are no source; a number leaves the text, and a text the number.
+    - teco -v A=xy -e YGAEX$$ in => => => => => => in == hi\n => in == hi\n ++ in.out == xyhi\n
+    - teco -v A=$^J!!y -e YGAEX$$ in => => => => => => in == hi\n => in == hi\n ++ in.out == $^J!!yhi\n
+    - teco -v N=5$^b -p J<@FS/old//;GN> in => => 5$^b one\n => => => => in == old one\n
+    - teco -v N:=-2147483648 -v 9:=5 -e YQN=Q9=EX$$ in => => -2147483648\r\n5\r\n => => => => in == hi\n => in == hi\n ++ in.out == hi\n
+    - teco -e YGAQA=EX$$ in -v a=x -v A:=7 => => 7\r\n => => => => in == hi\n => in == hi\n ++ in.out == xhi\n
+    - // Of several for one register and part the last one stands.
+    - teco -v A=x -v A:=7 -v A:=8 -v A=y -e YGAQA=EX$$ in => => 8\r\n => => => => in == hi\n => in == hi\n ++ in.out == yhi\n
+    - teco -v A=x -v A= -e YGA:QA=EX$$ in => => 0\r\n => => => => in == hi\n => in == hi\n ++ in.out == hi\n
+    - // Each INPUT begins with them, and so do commands of pages, of bytes and of standard input.
+    - teco -i -v A=x -p GA^UAz$ in two => => => => => => in == hi\n ++ two == two\n => in == xhi\n ++ two == xtwo\n
+    - teco -v A=x -b strings in => => => => => => in == hi\n ++ strings == YGAEX\x1b\x1b => in == hi\n ++ strings == YGAEX\x1b\x1b ++ in.out == xhi\n
+    - teco -v A=x -v A:=3 in => YGAHTQA=EX\x1b\x1b => xhi\n3\r\n => => => => in == hi\n => in == hi\n ++ in.out == xhi\n
+    - // They are there before the first string, so no undo takes them back.
+    - teco -v A=x in => {\x1b\x1b@\x15A/z/\x1b\x1b{\x1b\x1bGAHT\x1b\x1b => ?NTU\r\nx => => => 2 => in == hi\n
+    - teco --undo 1 -v A=x in => 1UA\x1b\x1b2UA\x1b\x1b{\x1b\x1b{\x1b\x1bGAQA=HT\x1b\x1b => ?NTU\r\n1\r\nx => => => 2 => in == hi\n
+    - // A text that is called. Its place is told, and a fault of it before the first INPUT is read.
+    - teco -v A=2D -e YMAEX$$ in => => => => => => in == hi\n => in == hi\n ++ in.out == \n
+    - teco -v A=9D -e YMAEX$$ in => => => => teco: in: --execute:1:2 in A 1:2: DTB: delete past the buffer\n => 2 => in == hi\n
+    - teco -v A=3M? -e YMAEX$$ in => => => --assign A:1:2: IQN: after M comes a register, A to Z or 0 to 9\n => => 3 => in == hi\n
+    - teco -v A=<D -p MA in => => => --assign A:1:1: UTC: < has no >\n => => 3 => in == hi\n
+    - teco -v A=MB -v B=D> -e YMAEX$$ in => => => --assign B:1:2: BNI: > has no <\n => => 3 => in == hi\n
+    - // One that isn't called, or that another one replaces, may be anything. Bytes and typed commands run unchecked.
+    - teco -v A=3M? -e YGAEX$$ in => => => => => => in == hi\n => in == hi\n ++ in.out == 3M?hi\n
+    - teco -v A=3M? -v A=D -e YMAEX$$ in => => => => => => in == hi\n => in == hi\n ++ in.out == i\n
+    - teco -v A=3M? in => YMAEX\x1b\x1b => ?IQN\r\n => => => 2 => in == hi\n
+    - // A check tells of them, after the faults of the commands.
+    - teco --check -v A=D -e YMAEX$$ none =>
+    - teco --check -v A:=5 -e YMAEX$$ none => => --execute:1:2: hint: A is called, and nothing puts a text into it\n
+    - teco --check -v A=3M? -v 0=<D -e YMAM?M0EX$$ none => => --execute:1:4: IQN: after M comes a register, A to Z or 0 to 9\n--assign A:1:2: IQN: after M comes a register, A to Z or 0 to 9\n--assign 0:1:1: UTC: < has no >\n => => => 2
+    - teco --check -v A=XB -v B=D -e YMAMBEX$$ none => => --assign A:1:1: not checked: XB puts what no check can see into a register that is called\n => => => 2";
