@@ -10,7 +10,7 @@ use Rattle.teco_cli.specs.StreamNames.{is_standard_input}
 use Rattle.teco_driver.proofs.Doings.{lacks_after}
 use Rattle.teco_fs.specs.Seen.{KeepsDisk, DiskSeen}
 use Rattle.teco_serve.specs.declared.fate.Fate.{Fate}
-use Rattle.teco_serve.specs.declared.fate.Fate.TheVariants.{NoCommands, NoInput, NotRegular, LargeInput, NoMemory, NoOutput, Changed, Unchanged, Lacking, Ended}
+use Rattle.teco_serve.specs.declared.fate.Fate.TheVariants.{NoCommands, NoInput, NotRegular, LargeInput, NoMemory, NoOutput, NoBackup, Changed, Unchanged, Lacking, Ended}
 use Rattle.teco_driver.specs.Sources.{AreCommandsIn, FailsToGive, IsFaultOf, IsFaultyFile, IsUnread, IsUnreadFile, IsWholeOf, LacksFiles, fault_by}
 use Rattle.teco_driver.specs.declared.sources.CommandsFault.{CommandsFault}
 use Rattle.teco_driver.specs.declared.sources.CommandsFault.TheVariants as fault
@@ -153,6 +153,7 @@ module _ {S I : Type 0} (source : SourceView S) (before after : DiskSeen I) (nam
   unread_by b NotRegular is fails = tt
   unread_by b NoMemory is fails = tt
   unread_by b (NoOutput reason) is fails = tt
+  unread_by b (NoBackup reason) is fails = tt
   unread_by b Changed is fails = tt
   unread_by b Unchanged is fails = tt
   unread_by b (Lacking unkept) is fails = tt

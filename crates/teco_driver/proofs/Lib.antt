@@ -1,3 +1,4 @@
+pub mod Backups
 pub mod Checks
 pub mod CheckedRuns
 pub mod Runs

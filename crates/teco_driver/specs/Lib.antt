@@ -1,5 +1,6 @@
 pub mod Lines
 pub mod Checks
+pub mod Backups
 pub mod CheckedRuns
 pub mod Runs
 pub mod Seen

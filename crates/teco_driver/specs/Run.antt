@@ -5,6 +5,7 @@ use Rattle.std.specs.Str.{bytes_eq}
 use Rattle.std.specs.String.{string_bytes}
 use Rattle.teco_io.specs.Terminal.{IsFrontOf, Screen, Shows}
 use Rattle.teco_cli.specs.Conflict.{are_awaited}
+use Rattle.teco_cli.specs.Options.{suffix_of}
 use Rattle.teco_cli.specs.StreamNames.{is_standard_output}
 use Rattle.std.specs.declared.io.Error.{Error}
 use Rattle.teco_core.specs.declared.limits.TheConstants.{FILE_LIMIT}
@@ -12,13 +13,14 @@ use Rattle.teco_session.specs.History.{History, history_from, present}
 use Rattle.teco_store.specs.State.{State, paged_beginning}
 use Rattle.teco_driver.specs.Values.{registers_of}
 use Rattle.teco_fs.specs.declared.unkept.Unkept.{Unkept}
-use Rattle.teco_fs.specs.Disk.{Changes, Files, IsStream, Opens, Passes, SameBut}
+use Rattle.teco_fs.specs.Disk.{Files, IsStream, Opens}
 use Rattle.teco_serve.specs.Ending.{fate_without_input, output_of, said, status_of, text_of}
 use Rattle.teco_io.specs.Input.{IsFaultOf}
 use Rattle.teco_fs.specs.Refusing.{Tells}
 use Rattle.teco_serve.specs.Exchange.{allowance}
 use Rattle.teco_serve.specs.Serving.{Serves}
 use Rattle.teco_driver.specs.Paging.{is_on_pages, page_lines_of}
+use Rattle.teco_driver.specs.Backups.{FailsToKeep, LeavesOver, WritesOver}
 use Rattle.teco_driver.specs.Seen.{CommandsSeen, InputSeen, OutputSeen, RunSeen}
 use Rattle.teco_fs.specs.Console.{TerminalSeen, terminal_seen}
 use Rattle.teco_fs.specs.Reading.{IsInput, IsStreamed}
@@ -26,11 +28,11 @@ use Rattle.teco_fs.specs.Reasons.{ComesTo}
 use Rattle.teco_fs.specs.declared.reason.Reason.TheVariants.{WriteFailed}
 use Rattle.teco_fs.specs.Seen.{DiskSeen, KeepsDisk}
 use Rattle.teco_io.specs.Source.{Gives}
-use Rattle.teco_fs.specs.Writing.{AddsDrafts, HasDraft, IsWriteError, IsWriting, WritesOutput}
+use Rattle.teco_fs.specs.Writing.{HasDraft, IsWriteError}
 use Rattle.teco_serve.specs.declared.alarm.Bounds.{Bounds}
 use Rattle.teco_serve.specs.declared.alarm.Manner.{Manner}
 use Rattle.teco_serve.specs.declared.fate.Fate.{Fate}
-use Rattle.teco_serve.specs.declared.fate.Fate.TheVariants.{NoCommands, NoInput, NotRegular, LargeInput, NoMemory, NoOutput}
+use Rattle.teco_serve.specs.declared.fate.Fate.TheVariants.{NoCommands, NoInput, NotRegular, LargeInput, NoMemory, NoOutput, NoBackup}
 use Rattle.teco_serve.specs.declared.fate.Fate.TheVariants.{Changed, Unchanged, Lacking}
 use Rattle.teco_serve.specs.declared.fate.Fate.TheVariants.{Ended}
 use Rattle.teco_io.specs.declared.input.InputFault.{InputFault}
@@ -61,20 +63,17 @@ LacksInput old new name fate = FailsToOpen new.gave fate ⊎ FailsToRead new.inp
 
 -- The output file is as it was; and at each moment it was so, or had these bytes. The fate is that of the
 -- error, and has its reason.
-pub record FailsToWrite {I : Type 0} (old new : DiskSeen I) (name bytes : List ℕ) (fate : Fate) : Type 0 where
-  pub files : Changes old.files new.files (AddsDrafts name)
-  pub streams : SameBut name old.streams new.streams
-  pub moments : Passes old.files old.left new.left (IsWriting name bytes)
+pub record FailsToWrite {I : Type 0} (old new : DiskSeen I) (name : List ℕ) (suffix : Option (List ℕ)) (bytes : List ℕ) (fate : Fate)
+    : Type 0 where
+  pub leaves : LeavesOver old new name suffix bytes
   pub error : Error
   pub given : IsWriteError new.gave error
   pub fate_is : ComesTo error NoMemory NoOutput fate
 
 -- The file has changed since it was read. It is as it was before the writing, and at each moment it was so.
-pub record FindsChange {I : Type 0} (old new : DiskSeen I) (name bytes : List ℕ) : Type 0 where
+pub record FindsChange {I : Type 0} (old new : DiskSeen I) (name : List ℕ) (suffix : Option (List ℕ)) (bytes : List ℕ) : Type 0 where
   pub changed : new.changed name
-  pub files : Changes old.files new.files (AddsDrafts name)
-  pub streams : SameBut name old.streams new.streams
-  pub moments : Passes old.files old.left new.left (IsWriting name bytes)
+  pub leaves : LeavesOver old new name suffix bytes
 
 -- The output goes over the file that is read: by --in-place, or by the name of --output.
 abbrev pub replaces_input : Line → Bool
@@ -142,7 +141,7 @@ pub record Doings : Type 1 where
   pub serves : Served → List ℕ → Type 0
   -- the output was written
   pub writes : List ℕ → Type 0
-  -- writing the output failed
+  -- writing the output failed, or keeping the old bytes before that
   pub fails : List ℕ → Fate → Type 0
   -- the output was to be written over a file that has these bytes already
   pub same : List ℕ → Type 0
@@ -162,6 +161,7 @@ EndsBy run LargeInput = run.lacks LargeInput × run.idle × run.keeps
 EndsBy run NoMemory = (run.idle × run.keeps)
     ⊎ ((output : List ℕ) × run.serves served.Exit output × run.fails output NoMemory)
 EndsBy run (NoOutput reason) = (output : List ℕ) × run.serves served.Exit output × run.fails output (NoOutput reason)
+EndsBy run (NoBackup reason) = (output : List ℕ) × run.serves served.Exit output × run.fails output (NoBackup reason)
 -- what was to be written over stays as it is
 EndsBy run Changed = (output : List ℕ) × run.serves served.Exit output × run.changed output
 EndsBy run Unchanged = (output : List ℕ) × run.serves served.Exit output × run.same output × run.keeps
@@ -207,7 +207,7 @@ doings_after served output over to = record {
   unkept = to.unkept;
 }
 
--- A file as the input, and a file as the output.
+-- A file as the input, and a file as the output, which may be to be kept before it is written.
 abbrev pub named_input : {I : Type 0} → DiskSeen I → DiskSeen I → List ℕ → InputSeen
 named_input old new name = record {
   lacks = LacksInput old new name;
@@ -215,14 +215,14 @@ named_input old new name = record {
   is_input = IsInput old.files name;
 }
 
-abbrev pub named_output : {I : Type 0} → DiskSeen I → DiskSeen I → List ℕ → OutputSeen
-named_output old new name = record {
+abbrev pub named_output : {I : Type 0} → DiskSeen I → DiskSeen I → List ℕ → Option (List ℕ) → OutputSeen
+named_output old new name suffix = record {
   keeps = KeepsDisk old new;
-  writes = WritesOutput old new name;
-  fails = FailsToWrite old new name;
+  writes = WritesOver old new name suffix;
+  fails = λ bytes fate. FailsToWrite old new name suffix bytes fate ⊎ FailsToKeep old new name suffix fate;
   has = λ bytes. (before : Files) → old.files ≡ Some before → before name ≡ Some bytes;
   is_as_read = λ bytes. new.asked name old.files (λ before now. old.streams name ≡ None → HasDraft name bytes before now);
-  changed = FindsChange old new name;
+  changed = FindsChange old new name suffix;
   unkept = new.unkept;
 }
 
@@ -273,7 +273,7 @@ standard_output screen between new = record {
 -- A run ends so, with its output in the file of this name, or on the terminal; then no file changes.
 abbrev pub EndsInFile : {I T : Type 0} → Line → List ℕ → RunSeen I T → Fate → Type 0
 EndsInFile line name run fate = EndsBy
-    (doings line run.input (named_output run.before run.after name) run.commands
+    (doings line run.input (named_output run.before run.after name (suffix_of line)) run.commands
     (terminal_seen run.screen run.old run.new)) fate
 
 pub record EndsOnTerminal {I T : Type 0} (line : Line) (run : RunSeen I T) (fate : Fate) : Type 0 where
@@ -287,12 +287,12 @@ EndsIn true line name run fate = EndsOnTerminal line run fate
 EndsIn false line name run fate = EndsInFile line name run fate
 
 -- After a serving a run ends so, with its output on the terminal, or in the file of this name.
-abbrev pub FinishesIn : {I T : Type 0} → Bool → Served → List ℕ → Bool → List ℕ → DiskSeen I → DiskSeen I → (T → Screen)
-    → T → T → Fate → Type 0
-FinishesIn true served output over name before after screen old new fate =
+abbrev pub FinishesIn : {I T : Type 0} → Bool → Served → List ℕ → Bool → Option (List ℕ) → List ℕ → DiskSeen I → DiskSeen I
+    → (T → Screen) → T → T → Fate → Type 0
+FinishesIn true served output over suffix name before after screen old new fate =
     EndsBy (doings_after served output ⊥ (standard_output screen old new)) fate × KeepsDisk before after
-FinishesIn false served output over name before after screen old new fate =
-    EndsBy (doings_after served output (IsTrue over) (named_output before after name)) fate × (new ≡ old)
+FinishesIn false served output over suffix name before after screen old new fate =
+    EndsBy (doings_after served output (IsTrue over) (named_output before after name suffix)) fate × (new ≡ old)
 
 -- A run of the program over this input of its line ends so.
 pub record Edits {I T : Type 0} (line : Line) (input : List ℕ) (run : RunSeen I T) (fate : Fate) : Type 0 where

@@ -44,7 +44,7 @@ pub record OutputSeen : Type 1 where
   pub keeps : Type 0
   -- these bytes were written
   pub writes : List ℕ → Type 0
-  -- these bytes could not be written: why, by how the run ends
+  -- these bytes could not be written, or the old ones not be kept before that: why, by how the run ends
   pub fails : List ℕ → Fate → Type 0
   -- these bytes are there already
   pub has : List ℕ → Type 0

@@ -1,14 +1,17 @@
 //! One run of the program: an input is read, commands are served over it, and the output is written.
-ghost use Rattle.std.specs.Prelude.{◌≡◌, ◌≤◌, IfOk, IfSome, IsTrue, false, true, vec_len};
+ghost use Rattle.std.specs.Prelude.{◌≡◌, ◌≤◌, IfErr, IfOk, IfSome, IsTrue, None, OnOk, false, true, vec_len};
 ghost use Rattle.std.specs.Option.{ForSome};
 ghost use Rattle.std.specs.String.{string_bytes};
 ghost use Rattle.teco_core.specs.declared.limits.TheConstants.{DEPTH_LIMIT, FILE_LIMIT};
 ghost use Rattle.teco_cli.specs.CommandLine.{IsDepth};
+ghost use Rattle.teco_cli.specs.Options.{suffix_of};
+ghost use Rattle.teco_cli.specs.Values.{text_behind};
 ghost use Rattle.teco_cli.specs.Conflict.{are_awaited};
 ghost use Rattle.teco_cli.specs.StreamNames.{is_standard_input, is_standard_output};
 ghost use Rattle.teco_serve.specs.Exchange.{HasRung};
 ghost use Rattle.teco_serve.specs.Ending.{output_of};
 ghost use Rattle.teco_session.specs.History.{present};
+ghost use Rattle.teco_driver.specs.Backups.{FailsToKeep, KeepsOld};
 ghost use Rattle.teco_driver.specs.Run.{EndsBy, FinishesIn, bounds_of, depth_of, doings_after, history_over, limit_of, manner_of, named_output, replaces_input, standard_output, wants_history};
 ghost use Rattle.teco_driver.specs.Given.{EditsByStream, EditsInput, host_view};
 ghost use Rattle.teco_fs.specs.Seen.{KeepsStream, disk_seen};
@@ -16,16 +19,16 @@ ghost use Rattle.teco_driver.specs.Seen.{commands_seen};
 ghost use Rattle.teco_fs.specs.Writing.{both};
 ghost use Rattle.teco_session.specs.Kept.{history_of};
 
-use crate::fates::{fate_written, no_output};
+use crate::fates::{fate_written, no_backup, no_output};
 use crate::host::Host;
 use crate::paging::page_lines_of;
 use crate::put_values;
 use crate::reading::{input_at, input_of};
 use std::alloc::Global;
 use std::mem::ManuallyDrop;
-use teco_cli::{Commands, Line, is_standard_output};
+use teco_cli::{Commands, Line, is_standard_output, suffix_of};
 use teco_core::NoMemory;
-use teco_fs::{Disk, Reason, Written, has_bytes, write_output};
+use teco_fs::{Disk, Reason, Written, has_bytes, keep_file, write_output};
 use teco_io::{Source, Terminal, TerminalFault};
 use teco_scan::asks_history;
 use teco_serve::{Alarm, Bounds, Fate, Listens, Manner, Served, Settings, output_name, serve};
@@ -94,20 +97,47 @@ fn put_on_terminal<T: Terminal>(output: (&[u8], &[u8]), term: &mut T) -> Fate
     }
 }
 
-/// Writes the output over the file that was read, under its name. That has to be what it was, and stays as it is if it has these bytes.
+/// Keeps what a file has under its name with the suffix after it, if there is one.
+fn keep_old<D: Disk>(
+    alloc: Global,
+    name: &str,
+    number: u32,
+    suffix: Option<&str>,
+    disk: &mut D,
+) -> Result<(), Fate>
+    ensures ok { let seen = disk_seen D.Disk D.Input.Source in
+        OnOk result (KeepsOld (seen disk.old) (seen disk.new) name.now (text_behind suffix.entry)) }
+    ensures err { let seen = disk_seen D.Disk D.Input.Source in
+        IfErr result (λ fate. FailsToKeep (seen disk.old) (seen disk.new) name.now (text_behind suffix.entry) fate) }
+{
+    let Some(suffix) = suffix else {
+        return Ok(());
+    };
+    match keep_file(alloc, disk, name, number, suffix) {
+        Ok(()) => Ok(()),
+        Err(error) => Err(no_backup(error)),
+    }
+}
+
+/// Writes the output over the file that was read, under its name. That has to be what it was, and stays as it is if it has these bytes. What
+/// it has is kept before under its name with the suffix after it, if there is one.
 fn put_over_input<D: Disk>(
     alloc: Global,
     name: &str,
     number: u32,
+    suffix: Option<&str>,
     output: (&[u8], &[u8]),
     disk: &mut D,
 ) -> Fate
     ensures { let seen = disk_seen D.Disk D.Input.Source in
         EndsBy (doings_after Served.Exit (both output.entry) (IsTrue true)
-        (named_output (seen disk.old) (seen disk.new) name.now)) result }
+        (named_output (seen disk.old) (seen disk.new) name.now (text_behind suffix.entry))) result }
 {
     if has_bytes(name, output, disk) {
         return Fate::Unchanged;
+    }
+    if let Err(fate) = keep_old(alloc, name, number, suffix, disk) {
+        return fate;
     }
     match write_output(alloc, disk, name, number, Some(name), output) {
         Ok(Written::Whole(unkept)) => fate_written(unkept),
@@ -116,21 +146,23 @@ fn put_over_input<D: Disk>(
     }
 }
 
-/// Writes the output to a file, which is the one that was read if it goes `over` that.
+/// Writes the output to a file, which is the one that was read if it goes `over` that. Only then old bytes are kept.
 fn put_in_file<D: Disk>(
     alloc: Global,
     over: bool,
     name: &str,
     number: u32,
+    suffix: Option<&str>,
     output: (&[u8], &[u8]),
     disk: &mut D,
 ) -> Fate
+    requires { over ≡ false → text_behind suffix ≡ None }
     ensures { let seen = disk_seen D.Disk D.Input.Source in
         EndsBy (doings_after Served.Exit (both output.entry) (IsTrue over)
-        (named_output (seen disk.old) (seen disk.new) name.now)) result }
+        (named_output (seen disk.old) (seen disk.new) name.now (text_behind suffix.entry))) result }
 {
     if over {
-        return put_over_input(alloc, name, number, output, disk);
+        return put_over_input(alloc, name, number, suffix, output, disk);
     }
     match write_output(alloc, disk, name, number, None, output) {
         Ok(Written::Whole(unkept)) => fate_written(unkept),
@@ -221,7 +253,7 @@ fn finish<S: Source, A: Alarm, T: Terminal, D: Disk>(
 ) -> Fate
     ensures ends { let seen = disk_seen D.Disk D.Input.Source in
         FinishesIn (is_standard_output (string_bytes work.now.to)) served (present (history_of work.now.session)).output
-        (replaces_input line.now) (string_bytes work.now.to)
+        (replaces_input line.now) (suffix_of line.now) (string_bytes work.now.to)
         (seen host.old.disk) (seen host.new.disk) T.screen host.old.terminal host.new.terminal result }
     ensures still { host.new.commands ≡ host.old.commands }
 {
@@ -235,7 +267,16 @@ fn finish<S: Source, A: Alarm, T: Terminal, D: Disk>(
         return put_on_terminal(output, &mut host.terminal);
     }
     let over = replaces_input(line);
-    put_in_file(alloc, over, name, host.process, output, &mut host.disk)
+    let suffix = suffix_of(line);
+    put_in_file(
+        alloc,
+        over,
+        name,
+        host.process,
+        suffix,
+        output,
+        &mut host.disk,
+    )
 }
 
 /// Gives up a session that is over.

@@ -2,7 +2,7 @@
 ghost use Rattle.std.specs.Prelude.{◌≡◌};
 ghost use Rattle.teco_driver.specs.Run.{fate_written};
 ghost use Rattle.teco_fs.specs.Reasons.{ComesTo};
-ghost use Rattle.teco_serve.specs.declared.fate.Fate.TheVariants.{NoCommands, NoInput, NoMemory, NoOutput};
+ghost use Rattle.teco_serve.specs.declared.fate.Fate.TheVariants.{NoBackup, NoCommands, NoInput, NoMemory, NoOutput};
 
 use std::io;
 use teco_fs::{Unkept, reason_of, unless_memory};
@@ -27,6 +27,13 @@ pub fn no_output(error: io::Error) -> Fate
     ensures { ComesTo error NoMemory NoOutput result }
 {
     unless_memory(error, Fate::NoMemory, Fate::NoOutput(reason_of(error)))
+}
+
+/// How it ends where the old bytes of the file that is to be written over can't be kept.
+pub fn no_backup(error: io::Error) -> Fate
+    ensures { ComesTo error NoMemory NoBackup result }
+{
+    unless_memory(error, Fate::NoMemory, Fate::NoBackup(reason_of(error)))
 }
 
 /// How the run ends whose output is written, if this could not be kept of the file that it was written over.

@@ -1,5 +1,5 @@
 -- How the program ends: its status, and what it prints on standard error.
-use Rattle.std.specs.Prelude.{ℕ, List, [], ◌++◌, Some, None, codes, if◌then◌else◌}
+use Rattle.std.specs.Prelude.{ℕ, List, [], ◌++◌, Some, None, codes, unwrap_or, if◌then◌else◌}
 use Rattle.std.specs.String.{string_bytes}
 use Rattle.teco_io.specs.declared.input.InputFault.{InputFault}
 use Rattle.teco_io.specs.declared.input.InputFault.TheVariants as input
@@ -7,12 +7,13 @@ use Rattle.teco_fs.specs.Unkept.{is_text, unkept_words}
 use Rattle.teco_fs.specs.Reasons.{with_reason}
 use Rattle.teco_fs.specs.declared.reason.Reason.TheVariants.{ReadFailed}
 use Rattle.teco_cli.specs.Conflict.{has_more}
+use Rattle.teco_cli.specs.Options.{suffix_of}
 use Rattle.teco_cli.specs.StreamNames.{is_standard_input}
 use Rattle.teco_cli.specs.declared.line.Commands.{Commands}
 use Rattle.teco_cli.specs.declared.line.Commands.TheVariants.{StandardInput, Sources, Pages, Bytes}
 use Rattle.teco_cli.specs.declared.line.Line.{Line}
 use Rattle.teco_serve.specs.declared.fate.Fate.{Fate}
-use Rattle.teco_serve.specs.declared.fate.Fate.TheVariants.{NoCommands, NoInput, NotRegular, LargeInput, NoMemory, NoOutput}
+use Rattle.teco_serve.specs.declared.fate.Fate.TheVariants.{NoCommands, NoInput, NotRegular, LargeInput, NoMemory, NoOutput, NoBackup}
 use Rattle.teco_serve.specs.declared.fate.Fate.TheVariants.{Changed, Unchanged, Lacking}
 use Rattle.teco_serve.specs.declared.fate.Fate.TheVariants.{Ended}
 use Rattle.teco_serve.specs.declared.served.Served.TheVariants as served
@@ -36,6 +37,10 @@ abbrev pub output_of : Line → List ℕ → List ℕ
 output_of line input = if line.in_place then input
     else (elim line.output [ Some name ↦ string_bytes name | None ↦ output_by line.commands input ])
 
+-- the name under which the old bytes of this input are kept
+abbrev pub backup_of : Line → List ℕ → List ℕ
+backup_of line input = input ++ unwrap_or (suffix_of line) []
+
 -- If the line has several inputs, each line that is told names its file.
 abbrev pub about : Line → List ℕ → List ℕ → List ℕ
 about line input words = if has_more line then input ++ codes ": " ++ words else words
@@ -58,6 +63,7 @@ status_of NotRegular = 1
 status_of LargeInput = 1
 status_of NoMemory = 1
 status_of (NoOutput reason) = 1
+status_of (NoBackup reason) = 1
 status_of Changed = 1
 status_of Unchanged = 0
 status_of (Lacking unkept) = if is_text unkept then 1 else 0
@@ -79,6 +85,7 @@ text_of line input NotRegular = said (input ++ codes " is not a regular file")
 text_of line input LargeInput = said (input ++ codes " is too large")
 text_of line input NoMemory = said (about line input (codes "no memory"))
 text_of line input (NoOutput reason) = said (with_reason (codes "cannot write ") (output_of line input) reason)
+text_of line input (NoBackup reason) = said (input ++ with_reason (codes ": no backup ") (backup_of line input) reason)
 text_of line input Changed = said (input ++ codes " has changed")
 text_of line input Unchanged = []
 text_of line input (Lacking unkept) = said (output_of line input ++ codes ": " ++ unkept_words unkept)

@@ -17,7 +17,7 @@ use Rattle.teco_serve.specs.Heard.{Heard}
 use Rattle.teco_serve.specs.Heard.Heard.{Ran, Moved, Left, Finished}
 use Rattle.teco_serve.specs.declared.alarm.Bounds.{Bounds}
 use Rattle.teco_serve.specs.declared.fate.Fate.{Fate}
-use Rattle.teco_serve.specs.declared.fate.Fate.TheVariants.{NoCommands, NoInput, NotRegular, LargeInput, NoMemory, NoOutput, Changed, Unchanged, Lacking}
+use Rattle.teco_serve.specs.declared.fate.Fate.TheVariants.{NoCommands, NoInput, NotRegular, LargeInput, NoMemory, NoOutput, NoBackup, Changed, Unchanged, Lacking}
 use Rattle.teco_serve.specs.declared.fate.Fate.TheVariants.{Ended}
 use Rattle.teco_serve.specs.declared.explaining.Telling.{Telling}
 use Rattle.teco_serve.specs.declared.served.Served.TheVariants as served
@@ -146,6 +146,7 @@ abbrev pub end_line : List ℕ → Fate → List ℕ
 end_line output (NoCommands reason) = []
 end_line output (NoInput reason) = unwritten_line output
 end_line output (NoOutput reason) = unwritten_line output
+end_line output (NoBackup reason) = unwritten_line output
 end_line output NotRegular = unwritten_line output
 end_line output LargeInput = unwritten_line output
 end_line output NoMemory = unwritten_line output

@@ -323,6 +323,7 @@ fn line_by_name(alloc: Global, output: &str, fate: Fate) -> Result<String, NoMem
         ),
         Fate::NoInput(_)
         | Fate::NoOutput(_)
+        | Fate::NoBackup(_)
         | Fate::NotRegular
         | Fate::LargeInput
         | Fate::NoMemory

@@ -1,12 +1,13 @@
 //! How the program ends.
-ghost use Rattle.std.specs.Prelude.{◌≡◌, ◌≢◌, ◌++◌, [], codes, IfOk, OnErr};
+ghost use Rattle.std.specs.Prelude.{◌≡◌, ◌≢◌, ◌++◌, [], codes, IfOk, OnErr, unwrap_or};
 ghost use Rattle.std.specs.String.{string_bytes};
+ghost use Rattle.teco_cli.specs.Options.{suffix_of};
 ghost use Rattle.teco_fs.specs.Reasons.{with_reason};
-ghost use Rattle.teco_serve.specs.Ending.{about, commands_name, output_beside, output_by, output_of, said, status_of, text_of};
+ghost use Rattle.teco_serve.specs.Ending.{about, backup_of, commands_name, output_beside, output_by, output_of, said, status_of, text_of};
 
 use crate::served::Served;
 use std::alloc::Global;
-use teco_cli::{Commands, Line, is_standard_input};
+use teco_cli::{Commands, Line, is_standard_input, suffix_of};
 use teco_core::NoMemory;
 use teco_fs::{Reason, Unkept};
 use teco_io::InputFault;
@@ -26,6 +27,8 @@ pub enum Fate {
     NoMemory,
     /// The output cannot be written, for this reason.
     NoOutput(Reason),
+    /// The old bytes of the input were to be kept under another name, and cannot be, for this reason.
+    NoBackup(Reason),
     /// The output was to be written over the file that was read, and that has changed since.
     Changed,
     /// The output was to be written over the file that was read, and that has it already.
@@ -124,6 +127,31 @@ fn commands_name(line: &Line) -> &str
     }
 }
 
+/// What follows an input's name in that under which its old bytes are kept; nothing if they aren't.
+fn backup_suffix(line: &Line) -> &str
+    ensures { result.now ≡ unwrap_or (suffix_of line.now) [] }
+{
+    match suffix_of(line) {
+        Some(suffix) => suffix,
+        None => "",
+    }
+}
+
+/// A line about an input whose old bytes can't be kept, and why.
+fn said_of_backup(
+    alloc: Global,
+    line: &Line,
+    input: &str,
+    reason: Reason,
+) -> Result<String, NoMemory>
+    ensures { IfOk result (λ text. string_bytes text
+        ≡ said (input.now ++ with_reason (codes ": no backup ") (backup_of line.now input.now) reason)) }
+{
+    let suffix = backup_suffix(line);
+    let why = reason.words();
+    format!(in alloc; "teco: {input}: no backup {input}{suffix}: {why}\n")
+}
+
 /// A line about no file, which names the input if the line has several.
 fn said_about(alloc: Global, line: &Line, input: &str, words: &str) -> Result<String, NoMemory>
     ensures { IfOk result (λ text. string_bytes text ≡ said (about line.now input.now words.now)) }
@@ -153,6 +181,7 @@ fn text(alloc: Global, line: &Line, input: &str, fate: Fate) -> Result<String, N
             let name = output_name(alloc, line, input)?;
             said_why(alloc, "cannot write ", name.as_str(), reason)
         }
+        Fate::NoBackup(reason) => said_of_backup(alloc, line, input, reason),
         Fate::Lacking(unkept) => {
             let name = output_name(alloc, line, input)?;
             said_of(alloc, name.as_str(), ": ", unkept.words())

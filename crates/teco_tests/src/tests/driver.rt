@@ -124,14 +124,15 @@ fn files_after(alloc: Global, disk: MemoryDisk, cells: &Cells) -> Option<MemoryD
     if held { Some(host.disk) } else { None }
 }
 
-/// The call that is refused, by the first letter of what a row says: that which reads, makes, writes or keeps, puts a draft in its place, or
-/// that and the removal of the draft; that a file has changed; that an owner can't be kept, or what is written late.
+/// The call that is refused, by the first letter of what a row says: that which reads, makes, writes or syncs, keeps an old file, puts a draft
+/// in its place, or that and the removal of the draft; that a file has changed; that an owner can't be kept, or what is written late.
 fn refused_of(said: &str) -> RefusedCall {
     match first_of(said) {
         b'r' => RefusedCall::Read,
         b'm' => RefusedCall::Make,
         b'w' => RefusedCall::Write,
         b's' => RefusedCall::Sync,
+        b'k' => RefusedCall::Keep,
         b'p' => RefusedCall::Rename,
         b'b' => RefusedCall::RenameAndRemove,
         b'c' => RefusedCall::Changed,

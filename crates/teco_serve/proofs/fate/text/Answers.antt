@@ -1,9 +1,9 @@
 use Rattle.std.proofs.lemmas.Grind.{common_steps}
-use Rattle.std.proofs.Common.{◌∙◌, [], ℕ, List, codes, arith}
+use Rattle.std.proofs.Common.{◌∙◌, ◌++◌, [], ℕ, List, codes, arith}
 use Rattle.std.specs.Prelude.{◌≢◌}
 use Rattle.std.proofs.lemmas.Result.{IfOk-from_err}
 use Rattle.teco_fs.specs.Reasons.{with_reason}
-use Rattle.teco_serve.specs.Ending.{commands_name, output_of, said}
+use Rattle.teco_serve.specs.Ending.{backup_of, commands_name, output_of, said}
 use Rattle.teco_fs.proofs.Writings.{on_err_by}
 use Rattle.teco_serve.proofs.fate.text.Goals as goal
 
@@ -49,6 +49,12 @@ pub returns-in_ok-name-in-NoOutput : goal.returns-in_ok-name-in-NoOutput
 returns-in_ok-name-in-NoOutput c = record {
   ok = rw (c.in-NoOutput.is, ← (c.as_str.ensures.value ∙ c.in_ok-name-in-NoOutput.ensures)) c.said_why-in-NoOutput.ensures;
   err = rw c.in-NoOutput.is (on_err_by c.said_why-in-NoOutput.result (said_some (with_reason (codes "cannot write ") (output_of c.args.line.now c.args.input.now) c.in-NoOutput.reason)));
+}
+
+pub returns-in-NoBackup : goal.returns-in-NoBackup
+returns-in-NoBackup c = record {
+  ok = rw c.in-NoBackup.is c.said_of_backup.ensures;
+  err = rw c.in-NoBackup.is (on_err_by c.said_of_backup.result (said_some (c.args.input.now ++ with_reason (codes ": no backup ") (backup_of c.args.line.now c.args.input.now) c.in-NoBackup.reason)));
 }
 
 pub returns-in_err-name-in-Lacking : goal.returns-in_err-name-in-Lacking

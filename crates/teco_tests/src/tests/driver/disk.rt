@@ -10,7 +10,7 @@ use std::os::fd::AsRawFd;
 use std::os::unix::fs::{MetadataExt, PermissionsExt};
 use std::time::SystemTime;
 use std::{fs, io};
-use teco_fs::{Disk, FileDisk, MemoryDisk, RefusedCall, Written, write_output};
+use teco_fs::{Disk, FileDisk, MemoryDisk, RefusedCall, Written, keep_file, write_output};
 
 /// Whether an output of these bytes is written, in two parts. What was read under this name, if a name is given, has to be what it was.
 fn writes_over<D: Disk>(
@@ -148,6 +148,7 @@ fn asked<D: Disk>(alloc: Global, disk: &mut D, verb: u8, name: &str, value: &str
         b's' => is_as_read(disk, name, value.is_empty()),
         b'f' => writes_over(alloc, disk, name, Some(name), value),
         b'v' => can_be_replaced(disk, name),
+        b'k' => keep_file(alloc, disk, name, 7, value).is_ok(),
         _ => failed_by(disk.why(), name),
     }
 }
@@ -163,6 +164,14 @@ fn done<R: Files + AllocGlobal>(rt: &R, verb: u8, name: &str, value: &str) -> io
         b'c' => rt.set_permissions(name, Permissions::from_mode(mode_of(value))),
         b'g' => rt.chown(name, Some(1234), Some(4321)),
         _ => Err(io::Error::from(ErrorKind::Other)),
+    }
+}
+
+/// Whether two names are those of one file.
+fn are_one(rt: &impl Files, name: &str, other: &str) -> bool {
+    match (rt.symlink_metadata(name), rt.symlink_metadata(other)) {
+        (Ok(one), Ok(two)) => one.dev() == two.dev() && one.ino() == two.ino(),
+        _ => false,
     }
 }
 
@@ -193,7 +202,8 @@ where
         b'd' => is_refused_by_its_descriptor(rt, disk, name),
         b'a' => ages(rt, name),
         b'b' => is_standard_output(rt, disk, name),
-        verb @ (b'o' | b't' | b'w' | b's' | b'f' | b'v' | b'e') => asked(
+        b'j' => are_one(rt, name, value),
+        verb @ (b'o' | b't' | b'w' | b's' | b'f' | b'v' | b'k' | b'e') => asked(
             rt.alloc(),
             disk,
             verb,
@@ -384,6 +394,54 @@ const SCRIPT: &str = "
     not write teco_test/link ours
     has teco_test/in theirs
     is teco_test/.teco-7 gone
+    unmake teco_test
+    new teco_test
+    // An old file is kept by a link, so it stays what it is, and the file is told to be as it was read all the same.
+    make teco_test/in old
+    chmod teco_test/in 640
+    vet teco_test/in
+    keep teco_test/in .bak
+    joins teco_test/in teco_test/in.bak
+    same teco_test/in
+    keep teco_test/in .bak
+    is teco_test/.teco-7 gone
+    finish teco_test/in new
+    has teco_test/in new
+    has teco_test/in.bak old
+    is teco_test/in.bak 640
+    // What had the name is replaced, also a link that leads to the file, and that of another run is not taken for the time.
+    make teco_test/.teco-7 theirs
+    vet teco_test/in
+    keep teco_test/in .bak
+    finish teco_test/in newer
+    has teco_test/in.bak new
+    has teco_test/.teco-7 theirs
+    remove teco_test/.teco-7
+    remove teco_test/in.bak
+    link teco_test/in.bak in
+    vet teco_test/in
+    keep teco_test/in .bak
+    finish teco_test/in last
+    has teco_test/in.bak newer
+    // A file behind a link is kept beside the link.
+    link teco_test/link in
+    vet teco_test/link
+    keep teco_test/link .bak
+    finish teco_test/link behind
+    is teco_test/link link
+    has teco_test/in behind
+    has teco_test/link.bak last
+    // A folder has the name, or the file has changed.
+    new teco_test/in.dir
+    vet teco_test/in
+    not keep teco_test/in .dir
+    error IsADirectory
+    is teco_test/.teco-7 gone
+    vet teco_test/in
+    make teco_test/in theirs
+    not keep teco_test/in .bak
+    error ResourceBusy
+    has teco_test/in.bak newer
     unmake teco_test
     ";
 

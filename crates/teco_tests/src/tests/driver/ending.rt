@@ -15,6 +15,7 @@ fn fate_of(said: &str) -> Fate {
         b'l' => Fate::LargeInput,
         b'm' => Fate::NoMemory,
         b'o' => Fate::NoOutput(Reason::NoRoom),
+        b'b' => Fate::NoBackup(Reason::Denied),
         b'd' => Fate::Changed,
         b'u' => Fate::Unchanged,
         b'k' => Fate::Lacking(Unkept::Permissions),
@@ -56,6 +57,7 @@ pub(super) const ROWS: &str = "
     - teco -b strings in => terminal failed => 1 => teco: cannot show\n
     - teco -b strings in => no memory in a run => 1 => teco: no memory\n
     - teco -b strings -i in => output => 1 => teco: cannot write in: there is no room on the disk\n
+    - teco -b strings -i.bak in => backup => 1 => teco: in: no backup in.bak: permission is denied\n
     - teco -b strings -i in => differs => 1 => teco: in has changed\n
     - teco -b strings -i in => unchanged => 0
     - teco -b strings -i in => kept all but the permissions => 0 => teco: in: permissions not kept\n

@@ -32,6 +32,16 @@ pub(super) const ROWS: &str = "
     - // What has the output already isn't written: a refused write is not met.
     - teco -i -e YEX$$ in => unread => => => => => in == hi\n => => write
     - teco -i -e YIA$EX$$ in => unread => => teco: cannot write in: there is no room on the disk\n => => 1 => in == hi\n => => write
+    - // The old file is kept in the place of what had its name. What is not written is not kept.
+    - teco --in-place=.bak -e YIA$EX$$ in => unread => => => => => in == hi\n => in == Ahi\n ++ in.bak == hi\n
+    - teco -i.bak -p IA$ in => unread => => => => => in == hi\n ++ in.bak == old => in == Ahi\n ++ in.bak == hi\n
+    - teco -i.bak -e YEX$$ in => unread => => => => => in == hi\n ++ in.bak == old
+    - teco -i.bak -e YIA$$ in => unread => => => teco: in: not written, the commands ended without EX\n => 2 => in == hi\n ++ in.bak == old
+    - teco -i.bak -p J<FSh$H$;> in two => unread => => => => => in == hi\n ++ two == two\n => in == Hi\n ++ in.bak == hi\n ++ two == two\n
+    - teco -i.bak -p IA$ in in => unread => => => => => in == hi\n => in == AAhi\n ++ in.bak == Ahi\n
+    - // If it can't be kept, nothing is written. If the output can't be written then, both names have the old bytes.
+    - teco -i.bak -e YIA$EX$$ in => unread => => teco: in: no backup in.bak: permission is denied\n => => 1 => in == hi\n ++ in.bak == old => => keep
+    - teco -i.bak -e YIA$EX$$ in => unread => => teco: cannot write in: there is no room on the disk\n => => 1 => in == hi\n => in == hi\n ++ in.bak == hi\n => write
     - // A file that another program changed is not replaced.
     - teco -i -e YIA$EX$$ in => unread => => teco: in has changed\n => => 1 => in == hi\n => => changed
     - // An owner that can't be kept is told, and the output is written all the same. What isn't written keeps its owner.

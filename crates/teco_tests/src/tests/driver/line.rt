@@ -9,7 +9,7 @@ use std::alloc::Global;
 use std::test::*;
 use teco_cli::{
     AssignedValue, Assignment, Commands, Line, LineFault, is_standard_input, is_standard_output,
-    line_of, refused_status,
+    line_of, refused_status, suffix_of,
 };
 use teco_core::NoMemory;
 
@@ -51,8 +51,14 @@ fn is_told(told: Result<String, NoMemory>, cell: &str) -> bool {
     }
 }
 
+/// Whether a line keeps the old file by this suffix, or by none, where that is said.
+fn keeps_so(line: &Line, cell: &str) -> bool {
+    cell.is_empty() || is(suffix_of(line).unwrap_or("none"), cell)
+}
+
 fn says(alloc: Global, line: &Line, cells: &Cells) -> bool {
     cells[3].is_empty()
+        && keeps_so(line, cells[4])
         && is_told(commands_told(alloc, &line.commands), cells[1])
         && is_told(rest_told(alloc, line), cells[2])
 }
@@ -68,7 +74,8 @@ fn is_refused(fault: &LineFault, status: &str) -> bool {
 /// What the rows of lines tell. Each begins with words, with blanks between them.
 #[derive(Clone, Copy)]
 enum Lines {
-    /// Where the commands come from, and what else they say, if that is said; or the status with which they are refused;
+    /// Where the commands come from, and what else they say, if that is said; or the status with which they are refused; the suffix of a file
+    /// that is kept, if that is said;
     Say,
     /// or how a run that they ask for ends.
     End,
@@ -170,6 +177,24 @@ const ROWS: &str = "
     teco -i=true in => => => 3
     teco in -q => => in [] None [false, false, false, false, true] None None [None, None]
     teco --quiet --explain in => => in [] None [false, false, false, true, true] None None [None, None]
+    // The old file is kept if there is a suffix, which is not empty and has no slash. A value is no option, nor is a word after --.
+    teco --in-place=.bak in => => in [] None [true, false, false, false, false] None None [None, None] => => .bak
+    teco in -i.old => => in [] None [true, false, false, false, false] None None [None, None] => => .old
+    teco --backup ~ in => => in [] None [true, false, false, false, false] None None [None, None] => => ~
+    teco --backup -x in => => in [] None [true, false, false, false, false] None None [None, None] => => -x
+    teco -i --in-place=.bak in => => in [] None [true, false, false, false, false] None None [None, None] => => .bak
+    teco --in-place=.a -i.b -i in => => in [] None [true, false, false, false, false] None None [None, None] => => .b
+    teco --in-place=in-place=i.x in => => in [] None [true, false, false, false, false] None None [None, None] => => in-place=i.x
+    teco -i in => => => => none
+    teco in => => => => none
+    teco -e EX$$ in -- --in-place=.bak -i.bak => => in [\"--in-place=.bak\", \"-i.bak\"] None [false, false, false, false, false] None None [None, None] => => none
+    teco -e --in-place=.bak in => [] Some(\"--in-place=.bak\") => => => none
+    teco -o -i.bak in => => in [] Some(\"-i.bak\") [false, false, false, false, false] None None [None, None] => => none
+    teco --in-place= in => => => 3
+    teco --in-place=a/b in => => => 3
+    teco -o out --in-place=.bak in => => => 3
+    teco -e EX$$ -i.bak - => => => 3
+    teco -i.bak => => => 3
     // Of a setting that is given again the last one stands; commands are not dropped.
     teco -i -i in => => in [] None [true, false, false, false, false] None None [None, None]
     teco -qq -i --in-place in => => in [] None [true, false, false, false, true] None None [None, None]

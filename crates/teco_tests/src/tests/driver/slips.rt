@@ -87,7 +87,7 @@ const OPTIONS: &str = "
     - // Options of other programs.
     - teco -pi J<FSold$new$;> f => => => --pages:1:1: UTC: the text ends inside a command\n => => 3 => f == old one\nold two\n
     - teco -n -p J<FSold$new$;> f => => => error: unexpected argument '-n' found\n\n  tip: to pass '-n' as a value, use '-- -n'\n\nUsage: teco [OPTIONS] <INPUT>...\n\nFor more information, try '--help'.\n => => 3 => f == old one\nold two\n
-    - teco -i.bak -p J<FSold$new$;> f => => => error: unexpected argument '-.' found\n\n  tip: to pass '-.' as a value, use '-- -.'\n\nUsage: teco [OPTIONS] <INPUT>...\n\nFor more information, try '--help'.\n => => 3 => f == old one\nold two\n
+    - teco -i.bak -p J<FSold$new$;> f => => => => => => f == old one\nold two\n => f == new one\nnew two\n ++ f.bak == old one\nold two\n
     - teco -ibak -p J<FSold$new$;> f => => => error: only one of '--pages <STRINGS>', '--bytes <FILE>', and '--file <FILE>' or '--execute <STRINGS>' can be used\n\nUsage: teco [OPTIONS] <INPUT>...\n\nFor more information, try '--help'.\n => => 3 => f == old one\nold two\n
     - teco --ex EX$$ f => => => error: unexpected argument '--ex' found\n\n  tip: a similar argument exists: '--explain'\n\nUsage: teco [OPTIONS] <INPUT>...\n\nFor more information, try '--help'.\n => => 3 => f == old one\nold two\n
     - teco --exec EX$$ f => => => error: unexpected argument '--exec' found\n\n  tip: a similar argument exists: '--execute'\n\nUsage: teco [OPTIONS] <INPUT>...\n\nFor more information, try '--help'.\n => => 3 => f == old one\nold two\n

@@ -14,6 +14,7 @@ pub(crate) const ROWS: &str = "
         -v, --assign <A=TEXT>    Puts TEXT into register A before the first string, or by A:=N the number N; may be repeated\n  \
         -o, --output <FILE>      Where the output goes after an exit, - for standard output; without it INPUT.out, or - if INPUT is - or with --pages\n  \
         -i, --in-place           Writes the output over each INPUT\n      \
+        --backup <SUFFIX>    The same, and keeps the old file as INPUT with SUFFIX after its name; --in-place=SUFFIX says so too, and -i.bak\n      \
         --check              Tells the faults of the commands, with their places; runs nothing, and reads no INPUT\n      \
         --page-lines <N>     The most lines of a page, at most 1000000000; without it form feeds alone end pages\n      \
         --limit <N>          The most steps of each command string, at most 1000000000000; without it 1000000, and 1000 for each byte of INPUT if an option gives the commands\n      \
@@ -41,5 +42,6 @@ pub(crate) const ROWS: &str = "
     - teco in in => => => error: more than one INPUT wants commands from '--execute <STRINGS>', '--pages <STRINGS>', '--file <FILE>' or '--bytes <FILE>'\n\nUsage: teco [OPTIONS] <INPUT>...\n\nFor more information, try '--help'.\n => => 3 => in == hi\n
     - teco - => => => error: standard input cannot be both the commands and an INPUT\n\nUsage: teco [OPTIONS] <INPUT>...\n\nFor more information, try '--help'.\n => => 3 => in == hi\n
     - teco -e EX$$ -i in /dev/stdin => => => error: the argument '--in-place' cannot be used with an INPUT that is standard input\n\nUsage: teco [OPTIONS] <INPUT>...\n\nFor more information, try '--help'.\n => => 3 => in == hi\n
+    - teco -e EX$$ --in-place= in => => => error: the suffix of '--in-place=<SUFFIX>' cannot be empty or have a '/'\n\nUsage: teco [OPTIONS] <INPUT>...\n\nFor more information, try '--help'.\n => => 3 => in == hi\n
     - teco --check in => => => error: the argument '--check' wants commands from '--execute <STRINGS>', '--pages <STRINGS>', '--file <FILE>' or '--bytes <FILE>'\n\nUsage: teco [OPTIONS] <INPUT>...\n\nFor more information, try '--help'.\n => => 3 => in == hi\n
     - teco => => => error: the following required arguments were not provided:\n  <INPUT>\n\nUsage: teco [OPTIONS] <INPUT>...\n\nFor more information, try '--help'.\n => => 3 => in == hi\n";
