@@ -9,6 +9,7 @@ pub mod Run
 pub mod Sources
 pub mod Given
 pub mod Places
+pub mod Advice
 pub mod Reporting
 pub mod Reported
 pub mod Values

@@ -25,6 +25,7 @@ use Rattle.teco_session.specs.Answers.{answer_code, outcome_of}
 use Rattle.teco_session.specs.Kept.{KeptSession}
 use Rattle.teco_session.specs.declared.request.Answered.{Answered}
 use Rattle.teco_store.specs.State.{state_of}
+use Rattle.teco_driver.specs.Advice.{advice_of}
 use Rattle.teco_driver.specs.Places.{place_told}
 use Rattle.teco_driver.specs.declared.reporting.Reporting.{Reporting}
 use Rattle.teco_driver.specs.declared.sources.ReadSource.{ReadSource}
@@ -88,18 +89,18 @@ call_reported None registers text = []
 call_reported (Some place) registers text =
     standing_in (slice_get place.calls.items 0) (standing_shown place registers text)
 
--- where in a called text the string stopped, and why
-abbrev pub reason_told : List ℕ → Answered → Bounds → KeptSession → Code → List ℕ
-reason_told text answered bounds session code =
+-- where in a called text the string stopped, and why; and what is told besides
+abbrev pub reason_told : List ℕ → List ℕ → Answered → Bounds → KeptSession → Code → List ℕ
+reason_told advice text answered bounds session code =
     call_reported (place_had answered.place) (state_of session.editor).registers text ++ codes ": "
-    ++ reason_shown (Some (limits_after bounds (outcome_of answered.answer))) code ++ codes "\n"
+    ++ reason_shown (Some (limits_after bounds (outcome_of answered.answer))) code ++ advice ++ codes "\n"
 
 -- A string that stopped by a code is told of: where, and why. With `--explain` its own line comes there.
 abbrev pub stop_report : Line → List ReadSource → Reporting → List ℕ → ℕ → Answered → Bounds → KeptSession → Option Code → List ℕ
 stop_report line parts r text begins answered bounds session None = []
 stop_report line parts r text begins answered bounds session (Some code) =
     of_error line parts r text begins (outer_place (place_had answered.place))
-    ++ (if line.explain then codes ": " else reason_told text answered bounds session code)
+    ++ (if line.explain then codes ": " else reason_told (advice_of parts) text answered bounds session code)
 
 abbrev pub run_report : Line → List ReadSource → Reporting → List ℕ → ℕ → Answered → Bounds → KeptSession → List ℕ
 run_report line parts r text begins answered bounds session =
@@ -110,7 +111,8 @@ run_report line parts r text begins answered bounds session =
 abbrev pub refusal_report : Line → List ReadSource → Reporting → ℕ → Option Code → List ℕ
 refusal_report line parts r begins None = []
 refusal_report line parts r begins (Some code) =
-    of_error line parts r [] begins 0 ++ (if line.explain then codes ": " else codes ": " ++ reason_shown None code ++ codes "\n")
+    of_error line parts r [] begins 0 ++ (if line.explain then codes ": "
+    else codes ": " ++ reason_shown None code ++ advice_of parts ++ codes "\n")
 
 abbrev pub move_report : Line → List ReadSource → Reporting → ℕ → Option Code → KeptSession → List ℕ
 move_report line parts r begins code session =
@@ -121,13 +123,14 @@ abbrev pub is_left : List ℕ → Bool → Bool
 is_left bytes broken_off = not broken_off && not (list_all is_filler bytes)
 
 abbrev pub left_words : ℕ → List ℕ
-left_words n = if n == 1 then codes "1 byte after the last $$ was not run\n"
-    else decimal n ++ codes " bytes after the last $$ were not run\n"
+left_words n = if n == 1 then codes "1 byte after the last $$ was not run"
+    else decimal n ++ codes " bytes after the last $$ were not run"
 
 -- They are told of. After an exit or a fault only `--explain` tells of what was not run.
-abbrev pub left_report : Line → Reporting → List ℕ → Bool → List ℕ
-left_report line r bytes broken_off =
-    if is_left bytes broken_off then of_input (input_named line r.inputs) ++ left_words (length bytes)
+abbrev pub left_report : Line → List ReadSource → Reporting → List ℕ → Bool → List ℕ
+left_report line parts r bytes broken_off =
+    if is_left bytes broken_off
+    then of_input (input_named line r.inputs) ++ left_words (length bytes) ++ advice_of parts ++ codes "\n"
     else (if broken_off && line.explain then left_line bytes broken_off else [])
 
 -- The run over an input ended since its commands did.
@@ -136,21 +139,22 @@ ends_without_exit (Ended served.EndOfCommands) = true
 ends_without_exit _ = false
 
 -- An input whose commands ended without EX is not written, which is told unless a line was told of it before.
-abbrev pub unwritten_report : Bool → List ℕ → Fate → List ℕ
-unwritten_report has_told input fate =
+abbrev pub unwritten_report : List ℕ → Bool → List ℕ → Fate → List ℕ
+unwritten_report advice has_told input fate =
     if has_told || not (ends_without_exit fate) then []
-    else of_input input ++ codes "not written, the commands ended without EX\n"
+    else of_input input ++ codes "not written, the commands ended without EX" ++ advice ++ codes "\n"
 
 -- with `--explain` what became of the output is told of each input
-abbrev pub end_report : Line → Reporting → List ℕ → Fate → List ℕ
-end_report line r input fate = if line.explain then end_line (output_of line input) fate else unwritten_report r.has_told input fate
+abbrev pub end_report : Line → List ReadSource → Reporting → List ℕ → Fate → List ℕ
+end_report line parts r input fate =
+    if line.explain then end_line (output_of line input) fate else unwritten_report (advice_of parts) r.has_told input fate
 
 -- What is told of what was heard.
 abbrev pub reported : Line → List ReadSource → Reporting → Heard → List ℕ
 reported line parts r (Ran text begins answered bounds session) = run_report line parts r text begins answered bounds session
 reported line parts r (Moved begins code session) = move_report line parts r begins code session
-reported line parts r (Left bytes broken_off) = left_report line r bytes broken_off
-reported line parts r (Finished at input fate) = end_report line r input fate
+reported line parts r (Left bytes broken_off) = left_report line parts r bytes broken_off
+reported line parts r (Finished at input fate) = end_report line parts r input fate
 
 -- before the first text
 abbrev pub first_report : Line → Reporting

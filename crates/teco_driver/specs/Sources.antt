@@ -18,13 +18,14 @@ use Rattle.teco_fs.specs.Reading.{IsInput, IsStreamed}
 use Rattle.teco_fs.specs.Seen.{DiskSeen}
 use Rattle.teco_serve.specs.declared.fate.Fate.{Fate}
 use Rattle.teco_serve.specs.declared.fate.Fate.TheVariants.{LargeInput, NoInput}
+use Rattle.teco_driver.specs.Advice.{bytes_advice, has_escape}
 use Rattle.teco_driver.specs.declared.sources.CommandsFault.{CommandsFault}
 use Rattle.teco_driver.specs.declared.sources.CommandsFault.TheVariants.{Memory, Unread, TooLarge, Caret}
+use Rattle.teco_driver.specs.declared.sources.WrongCaret.{WrongCaret}
 use Rattle.teco_source.specs.Source.{commands_of}
 use Rattle.teco_io.specs.Terminal.{Screen}
 use Rattle.teco_messages.specs.Shown.{spot_shown}
 use Rattle.teco_messages.specs.Spot.{spot_of}
-use Rattle.teco_messages.specs.declared.spot.Spot.{Spot}
 
 -- The bytes are all that standard input has; or all that the file of this name has, where the files are told, and
 -- standard input stays as it is.
@@ -55,12 +56,13 @@ IsGivenBy source (Pages word) files old new bytes = (strings : List ℕ) × (com
 IsGivenBy source (Bytes name) files old new bytes =
     IsWholeOf (is_standard_input (string_bytes name)) source files (string_bytes name) old new bytes
 
--- The source has a caret at this spot that stands before what it cannot stand before.
-abbrev pub HasWrongCaret : List ℕ → Spot → Type 0
-HasWrongCaret text spot = (at : ℕ) × (commands_of text ≡ Err at) × (spot ≡ spot_of text at)
+-- The source has this caret, which stands before what it cannot stand before.
+abbrev pub HasWrongCaret : List ℕ → WrongCaret → Type 0
+HasWrongCaret text caret = (at : ℕ) × (commands_of text ≡ Err at) × (caret.spot ≡ spot_of text at)
+    × (caret.has_escape ≡ has_escape text)
 
 -- The sources in the files before this one are read, and this one has a wrong caret.
-pub record IsFaultyFile {S : Type 0} (source : SourceView S) (files : Option Files) (names : List (String Global)) (at : ℕ) (spot : Spot) (old new : S) : Type 0 where
+pub record IsFaultyFile {S : Type 0} (source : SourceView S) (files : Option Files) (names : List (String Global)) (at : ℕ) (caret : WrongCaret) (old new : S) : Type 0 where
   pub mid : S
   pub front : List ℕ
   pub before : AreCommandsIn source files (take at names) old mid front
@@ -69,24 +71,24 @@ pub record IsFaultyFile {S : Type 0} (source : SourceView S) (files : Option Fil
   pub name_is : name ≡ slice_index_or names at name
   pub text : List ℕ
   pub text_is : IsWholeOf (is_standard_input (string_bytes name)) source files (string_bytes name) mid new text
-  pub wrong : HasWrongCaret text spot
+  pub wrong : HasWrongCaret text caret
 
 -- The sources in all files are read, and the word has a wrong caret.
-pub record IsFaultyWord {S : Type 0} (source : SourceView S) (files : Option Files) (names : List (String Global)) (word : Option (String Global)) (at : ℕ) (spot : Spot) (old new : S) : Type 0 where
+pub record IsFaultyWord {S : Type 0} (source : SourceView S) (files : Option Files) (names : List (String Global)) (word : Option (String Global)) (at : ℕ) (caret : WrongCaret) (old new : S) : Type 0 where
   pub front : List ℕ
   pub before : AreCommandsIn source files names old new front
   pub at_is : at ≡ length names
   pub text : List ℕ
   pub text_is : option_map string_bytes word ≡ Some text
-  pub wrong : HasWrongCaret text spot
+  pub wrong : HasWrongCaret text caret
 
--- The source of this number can't be read, at this spot.
-abbrev pub IsFaultyIn : {S : Type 0} → SourceView S → Commands → Option Files → ℕ → Spot → S → S → Type 0
-IsFaultyIn source StandardInput files at spot old new = ⊥
-IsFaultyIn source (Sources names word) files at spot old new =
-    IsFaultyFile source files names.items at spot old new ⊎ IsFaultyWord source files names.items word at spot old new
-IsFaultyIn source (Pages word) files at spot old new = HasWrongCaret (string_bytes word) spot × (new ≡ old)
-IsFaultyIn source (Bytes name) files at spot old new = ⊥
+-- The source of this number can't be read, for this caret.
+abbrev pub IsFaultyIn : {S : Type 0} → SourceView S → Commands → Option Files → ℕ → WrongCaret → S → S → Type 0
+IsFaultyIn source StandardInput files at caret old new = ⊥
+IsFaultyIn source (Sources names word) files at caret old new =
+    IsFaultyFile source files names.items at caret old new ⊎ IsFaultyWord source files names.items word at caret old new
+IsFaultyIn source (Pages word) files at caret old new = HasWrongCaret (string_bytes word) caret × (new ≡ old)
+IsFaultyIn source (Bytes name) files at caret old new = ⊥
 
 -- A run over standard input, or over the file of this name, would have this fate: it can't be read, or is too large. If it is a
 -- file, standard input stays as it is.
@@ -118,21 +120,21 @@ abbrev pub LacksCommands : {S I : Type 0} → SourceView S → Commands → Disk
 LacksCommands source commands before after old new Memory = ⊤
 LacksCommands source commands before after old new (Unread at reason) = IsUnreadIn source commands before after at old new (NoInput reason)
 LacksCommands source commands before after old new (TooLarge at) = IsUnreadIn source commands before after at old new LargeInput
-LacksCommands source commands before after old new (Caret at spot) = IsFaultyIn source commands before.files at spot old new
+LacksCommands source commands before after old new (Caret at caret) = IsFaultyIn source commands before.files at caret old new
 
 -- the same of its files alone
 abbrev pub LacksFiles : {S I : Type 0} → SourceView S → List (String Global) → DiskSeen I → DiskSeen I → S → S → CommandsFault → Type 0
 LacksFiles source names before after old new Memory = ⊤
 LacksFiles source names before after old new (Unread at reason) = IsUnreadFile source before after names at old new (NoInput reason)
 LacksFiles source names before after old new (TooLarge at) = IsUnreadFile source before after names at old new LargeInput
-LacksFiles source names before after old new (Caret at spot) = IsFaultyFile source before.files names at spot old new
+LacksFiles source names before after old new (Caret at caret) = IsFaultyFile source before.files names at caret old new
 
 -- and of one source, of this number
 abbrev pub IsFaultOf : List ℕ → ℕ → CommandsFault → Type 0
 IsFaultOf text at Memory = ⊤
 IsFaultOf text at (Unread n reason) = ⊥
 IsFaultOf text at (TooLarge n) = ⊥
-IsFaultOf text at (Caret n spot) = (n ≡ at) × HasWrongCaret text spot
+IsFaultOf text at (Caret n caret) = (n ≡ at) × HasWrongCaret text caret
 
 -- and of one file, of this number and name
 abbrev pub IsUnread : {S I : Type 0} → SourceView S → DiskSeen I → DiskSeen I → List ℕ → S → S → ℕ → CommandsFault → Type 0
@@ -141,7 +143,7 @@ IsUnread source before after name old new at (Unread n reason) =
     (n ≡ at) × FailsToGive (is_standard_input name) source before after name old new (NoInput reason)
 IsUnread source before after name old new at (TooLarge n) =
     (n ≡ at) × FailsToGive (is_standard_input name) source before after name old new LargeInput
-IsUnread source before after name old new at (Caret n spot) = ⊥
+IsUnread source before after name old new at (Caret n caret) = ⊥
 
 -- what a source of a line is called: by its file's name, or by the option that gives it
 abbrev pub source_name : Commands → ℕ → List ℕ
@@ -161,15 +163,16 @@ abbrev pub status_without : CommandsFault → ℕ
 status_without Memory = 1
 status_without (Unread at reason) = 1
 status_without (TooLarge at) = 1
-status_without (Caret at spot) = 3
+status_without (Caret at caret) = 3
 
 -- what is told where the commands are not had
 abbrev pub text_without : Commands → CommandsFault → List ℕ
 text_without commands Memory = said (codes "no memory")
 text_without commands (Unread at reason) = said (with_reason (codes "cannot read ") (source_name commands at) reason)
 text_without commands (TooLarge at) = said (source_name commands at ++ codes " is too large")
-text_without commands (Caret at spot) =
-    said (source_name commands at ++ (codes ":" ++ spot_shown spot ++ codes ": a caret before what it cannot stand before"))
+text_without commands (Caret at caret) =
+    said (source_name commands at ++ (codes ":" ++ spot_shown caret.spot ++ codes ": a caret before what it cannot stand before"
+    ++ bytes_advice caret.has_escape))
 
 -- The status is that of the fault, and its line is told on standard error; or that there is no memory for the line.
 abbrev pub Declines : Commands → CommandsFault → Screen → Screen → ℕ → Type 0

@@ -1,6 +1,7 @@
 //! A run of the program, from the words of its command line to its status, over any files and streams.
 #![tactic(auto)]
 
+mod advice;
 mod checked;
 mod checking;
 mod concluding;
@@ -17,6 +18,7 @@ mod reporting;
 mod running;
 mod several;
 mod sources;
+mod stopping;
 mod values;
 mod verdict;
 mod word_source;

@@ -1,24 +1,25 @@
 //! The lines of a tool's manner: what is told on standard error of each end that is no written or unchanged file.
-ghost use Rattle.std.specs.Prelude.{◌≡◌, ◌++◌, IfOk, OnOk, option_copied};
+ghost use Rattle.std.specs.Prelude.{◌≡◌, ◌++◌, IfOk, OnOk};
 ghost use Rattle.std.specs.String.{string_bytes};
-ghost use Rattle.teco_driver.specs.Reporting.{after_end, after_left, after_text, call_reported, end_report, ends_without_exit, first_report, input_named, is_left, left_report, left_words, move_report, of_error, of_input, outer_place, place_in_stream, reason_told, refusal_report, run_report, stop_report, string_told, unwritten_report, where_told};
-ghost use Rattle.teco_serve.specs.Explaining.{next_number, place_had};
+ghost use Rattle.teco_driver.specs.Advice.{advice_of};
+ghost use Rattle.teco_driver.specs.Reporting.{after_end, after_left, after_text, end_report, ends_without_exit, first_report, input_named, is_left, left_report, left_words, move_report, of_error, of_input, place_in_stream, refusal_report, run_report, stop_report, string_told, unwritten_report, where_told};
+ghost use Rattle.teco_serve.specs.Explaining.{next_number};
 ghost use Rattle.teco_session.specs.Answers.{answer_code};
 
 use crate::ReadSources;
+use crate::advice::advice_of;
 use crate::placing::put_place;
+use crate::stopping::{outer_place, place_had, put_reason};
 use std::alloc::Global;
 use std::fmt::Write;
 use teco_cli::{Commands, Line};
-use teco_core::{Code, NoMemory, Registers};
-use teco_exec::{Outcome, Place};
-use teco_messages::{show_place, show_reason, show_spot};
+use teco_core::{Code, NoMemory};
+use teco_messages::{show_reason, show_spot};
 use teco_serve::{
-    Bounds, Fate, Served, Telling, are_fillers, limits_after, line_of_end, line_of_left,
-    lines_of_move, lines_of_run, next_number, outcome_of,
+    Bounds, Fate, Served, Telling, are_fillers, line_of_end, line_of_left, lines_of_move,
+    lines_of_run, next_number,
 };
 use teco_session::{Answered, Session};
-use teco_store::Desk;
 
 /// Of how much it was told.
 #[derive(Clone, Copy)]
@@ -104,79 +105,14 @@ fn put_input(out: &mut String, input: &str) -> Result<(), NoMemory>
     write!(out, "teco: {input}: ")
 }
 
-/// Where a string stood, or its first call that is open: at its beginning, if that isn't known.
-fn outer_place(place: Option<&Place>) -> usize
-    ensures { result ≡ outer_place (option_copied place.entry) }
-{
-    let Some(place) = place else {
-        return 0;
-    };
-    match place.calls.last() {
-        Some(call) => call.at,
-        None => place.at,
-    }
-}
-
-/// Puts the register whose text ran, if one was called, and the place there.
-fn put_call(
-    out: &mut String,
-    place: Option<&Place>,
-    registers: &Registers,
-    text: &[u8],
-) -> Result<(), NoMemory>
-    ensures { OnOk result (string_bytes out.new
-        ≡ string_bytes out.old ++ call_reported (option_copied place.entry) registers.now text.now) }
-{
-    let Some(place) = place else {
-        return Ok(());
-    };
-    match place.calls.first() {
-        None => Ok(()),
-        Some(_) => {
-            out.push_str(" in ")?;
-            show_place(out, place, registers, text)
-        }
-    }
-}
-
-/// Where the run of a string last stood, unless memory lacked for that.
-fn place_had(answered: &Answered) -> Option<&Place>
-    ensures { option_copied result ≡ place_had answered.now.place }
-{
-    match &answered.place {
-        Ok(place) => place.as_ref(),
-        Err(NoMemory) => None,
-    }
-}
-
-/// Puts where in a called text a string stopped, and why.
-fn put_reason(
-    out: &mut String,
-    text: &[u8],
-    answered: &Answered,
-    bounds: Bounds,
-    session: &Session,
-    code: Code,
-) -> Result<(), NoMemory>
-    ensures { OnOk result (string_bytes out.new
-        ≡ string_bytes out.old ++ reason_told text.now answered.now bounds session.now code) }
-{
-    let registers = session.editor().registers();
-    put_call(out, place_had(answered), registers, text)?;
-    out.push_str(": ")?;
-    let limits = limits_after(bounds, outcome_of(answered.answer));
-    show_reason(out, code, Some(limits))?;
-    out.push_str("\n")
-}
-
 /// Puts how many bytes were not run.
 fn put_left(out: &mut String, n: usize) -> Result<(), NoMemory>
     ensures { OnOk result (string_bytes out.new ≡ string_bytes out.old ++ left_words n) }
 {
     if n == 1 {
-        return out.push_str("1 byte after the last $$ was not run\n");
+        return out.push_str("1 byte after the last $$ was not run");
     }
-    writeln!(out, "{n} bytes after the last $$ were not run")
+    write!(out, "{n} bytes after the last $$ were not run")
 }
 
 /// Whether the run over an input ended since its commands did, without EX.
@@ -187,14 +123,23 @@ fn ends_without_exit(fate: Fate) -> bool
 }
 
 /// Puts that an input whose commands ended without EX is not written, unless a line was told of it before.
-fn put_unwritten(out: &mut String, has_told: bool, input: &str, fate: Fate) -> Result<(), NoMemory>
-    ensures { OnOk result (string_bytes out.new ≡ string_bytes out.old ++ unwritten_report has_told input.now fate) }
+fn put_unwritten(
+    out: &mut String,
+    advice: &str,
+    has_told: bool,
+    input: &str,
+    fate: Fate,
+) -> Result<(), NoMemory>
+    ensures { OnOk result (string_bytes out.new
+        ≡ string_bytes out.old ++ unwritten_report advice.now has_told input.now fate) }
 {
     if has_told || !ends_without_exit(fate) {
         return Ok(());
     }
     put_input(out, input)?;
-    out.push_str("not written, the commands ended without EX\n")
+    out.push_str("not written, the commands ended without EX")?;
+    out.push_str(advice)?;
+    out.push_str("\n")
 }
 
 /// What the lines are made of: the line of the program, the sources of its commands, and of how much it was told.
@@ -226,6 +171,13 @@ pub(crate) fn reports_by<'a>(
 }
 
 impl Reports<'_> {
+    /// What is told besides of the sources.
+    fn advice(self) -> &'static str
+        ensures { result.now ≡ advice_of self.entry.parts.now.list.items }
+    {
+        advice_of(self.parts.list())
+    }
+
     /// Puts the string of a file that is no source, and the place in it; with `--explain` these come next.
     fn put_string(self, out: &mut String, text: &[u8], at: usize) -> Result<(), NoMemory>
         ensures { OnOk result (string_bytes out.new ≡ string_bytes out.old
@@ -305,7 +257,7 @@ impl Reports<'_> {
         if self.line.explain {
             return out.push_str(": ");
         }
-        put_reason(out, text, answered, bounds, session, code)
+        put_reason(out, text, answered, bounds, session, code, self.advice())
     }
 
     /// What is told of a text that was run.
@@ -344,6 +296,7 @@ impl Reports<'_> {
             return Ok(());
         }
         show_reason(out, code, None)?;
+        out.push_str(self.advice())?;
         out.push_str("\n")
     }
 
@@ -369,12 +322,14 @@ impl Reports<'_> {
     /// What is told of bytes that were not run.
     pub(crate) fn of_left(self, bytes: &[u8], broken_off: bool) -> Result<String, NoMemory>
         ensures { IfOk result (λ lines. string_bytes lines
-            ≡ left_report self.entry.line.now self.entry.reporting bytes.now broken_off) }
+            ≡ left_report self.entry.line.now self.entry.parts.now.list.items self.entry.reporting bytes.now broken_off) }
     {
         let mut lines = String::new(self.alloc);
         if is_left(bytes, broken_off) {
             put_input(&mut lines, input_named(self.line, self.reporting.inputs))?;
             put_left(&mut lines, bytes.len())?;
+            lines.push_str(self.advice())?;
+            lines.push_str("\n")?;
             return Ok(lines);
         }
         if broken_off && self.line.explain {
@@ -386,13 +341,14 @@ impl Reports<'_> {
     /// What is told of how the run over an input ended.
     pub(crate) fn of_end(self, input: &str, fate: Fate) -> Result<String, NoMemory>
         ensures { IfOk result (λ lines. string_bytes lines
-            ≡ end_report self.entry.line.now self.entry.reporting input.now fate) }
+            ≡ end_report self.entry.line.now self.entry.parts.now.list.items self.entry.reporting input.now fate) }
     {
         if self.line.explain {
             return line_of_end(self.alloc, self.line, input, fate);
         }
         let mut lines = String::new(self.alloc);
-        put_unwritten(&mut lines, self.reporting.has_told, input, fate)?;
+        let advice = self.advice();
+        put_unwritten(&mut lines, advice, self.reporting.has_told, input, fate)?;
         Ok(lines)
     }
 }

@@ -8,6 +8,7 @@ ghost use Rattle.teco_fs.specs.Seen.{KeepsDisk, disk_seen};
 ghost use Rattle.teco_driver.specs.Sources.{AreCommandsIn, Declines, FailsToGive, IsFaultOf, IsGivenBy, IsUnread, IsWholeOf, LacksCommands, LacksFiles, fault_by, source_name, status_without, text_without};
 ghost use Rattle.teco_source.specs.Source.{commands_of};
 
+use crate::advice::{bytes_advice, has_escape};
 use crate::concluding::no_memory;
 use crate::reading::{input_of_file, input_of_stream};
 use std::alloc::Global;
@@ -28,8 +29,16 @@ pub enum CommandsFault {
     Unread(usize, Reason),
     /// The file of this number has more bytes than it may have.
     TooLarge(usize),
-    /// The source of this number can't be read. At this spot of it a caret stands before what it cannot stand before.
-    Caret(usize, Spot),
+    /// The source of this number can't be read, for this caret.
+    Caret(usize, WrongCaret),
+}
+
+/// A caret of a source that stands before what it cannot stand before.
+#[derive(Clone, Copy)]
+pub struct WrongCaret {
+    pub spot: Spot,
+    /// Whether the source has an ESC.
+    pub has_escape: bool,
 }
 
 impl From<NoMemory> for CommandsFault {
@@ -113,7 +122,11 @@ fn commands_in(alloc: Global, source: &[u8], at: usize) -> Result<Vec<u8>, Comma
     match commands(alloc, source) {
         Ok(strings) => Ok(strings),
         Err(ReaderFault::Memory) => Err(CommandsFault::Memory),
-        Err(ReaderFault::Caret(place)) => Err(CommandsFault::Caret(at, spot_of(source, place))),
+        Err(ReaderFault::Caret(place)) => {
+            let spot = spot_of(source, place);
+            let has_escape = has_escape(source);
+            Err(CommandsFault::Caret(at, WrongCaret { spot, has_escape }))
+        }
     }
 }
 
@@ -304,9 +317,13 @@ fn text_without(
         CommandsFault::TooLarge(at) => {
             said_of(alloc, "", source_name(commands, at), " is too large")
         }
-        CommandsFault::Caret(at, spot) => {
+        CommandsFault::Caret(at, caret) => {
             let name = source_name(commands, at);
-            format!(in alloc; "teco: {name}:{spot}: a caret before what it cannot stand before\n")
+            let spot = caret.spot;
+            let advice = bytes_advice(caret.has_escape);
+            format!(in alloc;
+                "teco: {name}:{spot}: a caret before what it cannot stand before{advice}\n"
+            )
         }
     }
 }

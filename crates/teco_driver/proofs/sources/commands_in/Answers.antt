@@ -6,8 +6,8 @@ use Rattle.teco_source.specs.declared.reader.ReaderFault.TheVariants as fault
 use Rattle.teco_driver.proofs.CommandSources.{caret_within}
 use Rattle.teco_driver.proofs.sources.commands_in.Goals as goal
 
-pub spot_of-requires : goal.spot_of-requires
-spot_of-requires c =
+pub spot_of-spot-requires : goal.spot_of-spot-requires
+spot_of-spot-requires c =
     let same : c.in-Err-Caret.field-0 ≡ fault.Caret c.in-Err-Caret.place = first_of (cc, search rules) in
     caret_within c.args.source.now c.in-Err-Caret.place (subst (λ (f : ReaderFault). IsReadAs (commands_of c.args.source.now) (Err f)) same c.in-Err-Caret.ensures.reads)
 

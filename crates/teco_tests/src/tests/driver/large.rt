@@ -6,22 +6,19 @@ use std::alloc::Global;
 use std::test::*;
 use teco_fs::{MemoryDisk, RefusedCall};
 
-/// Rows as those of runs, but for the bytes of the one file before and after. [4*3] stands for three lines of four bytes, with their ends.
-/// Strings for every page have pages of at most 1048576 bytes, or of one line.
+/// A row as those of runs, but for the bytes of the one file before and after. [4*3] stands for three lines of four bytes, with their ends.
+/// Fifteen of these lines have 983055 bytes, and sixteen more than 1048576. Form feeds end pages too, and a vertical tab ends a line.
 const SHORT_PAGES: &str = "
-    - // Form feeds end these pages too. One after the last line of a page ends the next page. A vertical tab ends a line.
-    - teco -i -p Z=^E=I+$ in => => 16777214\r\n0\r\n4\r\n0\r\n0\r\n-1\r\n1\r\n-1\r\n2\r\n0\r\n => => => => [16777214*1][4*1]\x0cx\x0cx\x0b => +[16777214*1]+[4*1]+\x0c+x\x0c+x\x0b
-    - // Fifteen lines, of which one has no bytes, have 983055 bytes or less. The last line needs no end.
-    - teco -i -p Z-983055\"NZ=' in => => 917519\r\n196612\r\n => => => => [65537*14][1*1][65537*243]x";
+    - teco -i -p Z-983055\"NZ=^E='I+$ in => => 917519\r\n0\r\n196611\r\n-1\r\n1\r\n-1\r\n2\r\n0\r\n => => => => [65537*14][1*1][65537*243]\x0cx\x0cx\x0b => +[65537*14][1*1]+[65537*15]+[65537*15]+[65537*15]+[65537*15]+[65537*15]+[65537*15]+[65537*15]+[65537*15]+[65537*15]+[65537*15]+[65537*15]+[65537*15]+[65537*15]+[65537*15]+[65537*15]+[65537*15]+[65537*3]\x0c+x\x0c+x\x0b";
 
-/// Pages between form feeds that fit, and pages of as many lines as the line of the program says, are no shorter.
+/// Pages that fit end at form feeds alone.
 const LONG_PAGES: &str = "
-    - teco -i -p Z= in => => 16777216\r\n3\r\n => => => => [4194304*4]\x0c[1*3]
-    - teco --page-lines 3 -i -p Z= in => => 12582912\r\n4194306\r\n => => => => [4194304*4][2*1]";
+    - teco -i -p Z= in => => 16777216\r\n3\r\n => => => => [4194304*4]\x0c[1*3]";
 
-/// A line that doesn't fit is BIG, and so is a page that doesn't fit where other strings read it.
+/// A line that doesn't fit is BIG, and so is a page that doesn't fit if the line says how long pages are, or other strings read it.
 const BIG_PAGES: &str = "
     - teco -i -p Z= in => => 2\r\n => => teco: in: --pages:1:3: BIG: a text may have 16777216 bytes: --page-lines N makes smaller pages\n => 2 => [2*1][16777217*1]
+    - teco --page-lines 5 -i -p Z= in => => => => teco: in: --pages:1:1: BIG: a text may have 16777216 bytes: --page-lines N makes smaller pages\n => 2 => [4194304*4][2*1]
     - teco -i -e YZ=EX$$ in => => => => teco: in: --execute:1:1: BIG: a text may have 16777216 bytes: --page-lines N makes smaller pages\n => 2 => [4194304*4][2*1]";
 
 /// Puts so many lines of so many bytes, each with its end.
@@ -77,11 +74,11 @@ fn large_inputs_have_short_pages(rt: HostRuntime) {
 }
 
 #[test]
-fn pages_that_fit_or_are_counted_stay_long(rt: HostRuntime) {
+fn pages_that_fit_stay_long(rt: HostRuntime) {
     all_hold(&rt, rt.alloc(), &LargeRuns, LONG_PAGES);
 }
 
 #[test]
-fn large_lines_and_pages_of_other_strings_are_big(rt: HostRuntime) {
+fn what_does_not_fit_is_big(rt: HostRuntime) {
     all_hold(&rt, rt.alloc(), &LargeRuns, BIG_PAGES);
 }

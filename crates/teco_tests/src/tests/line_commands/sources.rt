@@ -18,7 +18,7 @@ pub(crate) const ROWS: &str = "
     - teco -f lib.teco -e HTEX$$ -f calls.teco in => => x^hi\n => => => => in == hi\n ++ lib.teco == @^UA/0L Ix^=$ /$$\n!!puts in x and a caret\n ++ calls.teco == Y MA$$\n => in == hi\n ++ lib.teco == @^UA/0L Ix^=$ /$$\n!!puts in x and a caret\n ++ calls.teco == Y MA$$\n ++ in.out == x^hi\n
     - teco -e MAHTEX$$ -f lib.teco in => => x^ => => => => in == hi\n ++ lib.teco == @^UA/0L Ix^=$ /$$\n!!puts in x and a caret\n => in == hi\n ++ lib.teco == @^UA/0L Ix^=$ /$$\n!!puts in x and a caret\n ++ in.out == x^hi\n
     - // ESC is a byte of a source too, and a dollar sign is written with a caret.
-    - teco --file=strings in => => $ => => teco: in: not written, the commands ended without EX\n => 2 => in == hi\n ++ strings == I^$\x1bHT\x1b\x1b
+    - teco --file=strings in => => $ => => teco: in: not written, the commands ended without EX; teco -b takes the bytes of a file as they are\n => 2 => in == hi\n ++ strings == I^$\x1bHT\x1b\x1b
     - // The bytes of a file as they are: a dollar sign and a line end are themselves.
     - teco --bytes=strings in => => $\n!!^J => => teco: in: not written, the commands ended without EX\n => 2 => in == hi\n ++ strings == I$\n!!^J\x1bHT\x1b\x1b
     - teco -b strings in => => 3\r\n => => => => in == hi\n ++ strings == Y\x1b\x1bZ=\x1b\x1bEX\x1b\x1b => in == hi\n ++ strings == Y\x1b\x1bZ=\x1b\x1bEX\x1b\x1b ++ in.out == hi\n
@@ -30,6 +30,11 @@ pub(crate) const ROWS: &str = "
     - teco -e YEX^ in => => => teco: --execute:1:4: a caret before what it cannot stand before\n => => 3 => in == hi\n
     - teco -i -p Ia^* in => => => teco: --pages:1:3: a caret before what it cannot stand before\n => => 3 => in == hi\n
     - teco -e Y$$Ix^+$EX$$ in in => => => teco: --execute:1:6: a caret before what it cannot stand before\n => => 3 => in == hi\n
+    - // Each line of a run by a source that has an ESC names the option for bytes.
+    - teco -i -f escs in => => => teco: escs:1:4: a caret before what it cannot stand before; teco -b takes the bytes of a file as they are\n => => 3 => in == hi\n ++ escs == YIa^5\x1bEX\x1b\x1b
+    - teco -i -f escs in => => => => teco: in: escs:1:2: SRH: the search found nothing; teco -b takes the bytes of a file as they are\n => 2 => in == hi\n ++ escs == YSx\x1bEX\x1b\x1b
+    - teco -i -f escs -e {$$ in => => => => teco: in: --execute:1:1: NTU: nothing to undo; teco -b takes the bytes of a file as they are\n => 2 => in == hi\n ++ escs == !!\x1b\n
+    - teco -i -f escs in => => => => teco: in: 7 bytes after the last $$ were not run; teco -b takes the bytes of a file as they are\n => 2 => in == hi\n ++ escs == YIa\x1bEX\x1b
     - // Files of commands that are not there, and an input that is not.
     - teco -f none in => => => teco: cannot read none: there is no such file or folder\n => => 1 => in == hi\n
     - teco -f calls.teco -f none -e EX$$ in => => => teco: cannot read none: there is no such file or folder\n => => 1 => in == hi\n ++ calls.teco == Y MA$$\n
