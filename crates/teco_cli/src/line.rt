@@ -29,10 +29,10 @@ pub const MOST_PAGE_LINES: u64 = 1_000_000_000;
 
 /// What the help says of the commands, after the options.
 const AFTER_HELP: &str =
-    "Commands are read from standard input where no option gives them, and what they type goes to standard
+    "Commands are read from standard input where no option gives them, and what they print goes to standard
 output. In STRINGS, and in the files of --file, $ is ESC and ^J ends a line; line ends, margins and what
 follows !! are for readers alone. Two ESC end a command string, which is then run; EX writes the output
-and ends the run. Each INPUT is a run of its own; several want an option that gives the commands.";
+and ends the run. Each INPUT is a run of its own; several need an option that gives the commands.";
 
 /// The usage, which the help and each faulty line show.
 const USAGE: &str = "teco [OPTIONS] <INPUT>...";
@@ -85,7 +85,7 @@ pub struct Line {
     pub values: Vec<Assignment>,
     /// The most command strings that are kept to be undone, from 1 to [`DEPTH_LIMIT`]; without it all are kept.
     pub undo: Option<u64>,
-    /// The line ends after which a page ends, from 1 to [`MOST_PAGE_LINES`]; without it form feeds alone end pages.
+    /// The line ends after which a page ends, from 1 to [`MOST_PAGE_LINES`]; without it form feeds end pages.
     pub page_lines: Option<u64>,
 }
 

@@ -51,14 +51,14 @@ static WITH_E: [LeftOut; 13] = rows! {
     Nothing "EM" "moves a tape" "nothing";
     Nothing "ED" "sets how searches and Y work" "HKY for Y, and .Uq :Stext$\"UQqJ' where a search may fail";
     Nothing "EE" "sets the byte that stands for ESC" "leave it out";
-    Nothing "EH" "sets how much a message tells" "--explain on the command line";
+    Nothing "EH" "sets how much a message says" "--explain on the command line";
     Nothing "EO" "gives the version" "leave it out";
     RegisterAndText "EQ" "reads a file into a register" "its text by @^Uq/../";
-    RegisterAndText "E%" "writes a register to a file" "type it by :Gq";
+    RegisterAndText "E%" "writes a register to a file" "print it by :Gq";
     Nothing "ES" "shows the text after a search" "V after the search";
-    Nothing "ET" "sets how bytes are typed" "leave it out";
+    Nothing "ET" "sets how bytes are printed" "leave it out";
     Nothing "EU" "shows the case of letters" "leave it out";
-    Nothing "EV" "shows the line of the pointer" "V where it is wanted";
+    Nothing "EV" "shows the line of the pointer" "V where it is needed";
     Nothing "EZ" "sets how the tape is read" "leave it out";
 };
 
@@ -82,7 +82,7 @@ static WITH_F: [LeftOut; 12] = rows! {
 static WITH_COLON: [LeftOut; 13] = rows! {
     Register ":X" "appends lines to a register" "Gq and Xq over both";
     RegisterAndText ":^U" "appends a text to a register" "Gq, the text by I, and Xq over both";
-    Nothing ":;" "leaves where the last search was a hit" "\"S0;' after a search with a colon";
+    Nothing ":;" "leaves where the last search found its text" "\"S0;' after a search with a colon";
     Register ":]" "pops, and gives whether it could" "]q where something was pushed";
     Register ":M" "runs a text with the registers of its caller" "Mq, which does so";
     Nothing ":C" "goes on, and gives whether it could" "a test of .-Z before C";
@@ -90,8 +90,8 @@ static WITH_COLON: [LeftOut; 13] = rows! {
     Nothing ":J" "goes to a place, and gives whether it could" "a test before J";
     Nothing ":D" "deletes, and gives whether it could" "a test of .-Z before D";
     Nothing ":Y" "reads a page, and gives whether it could" "^N before Y";
-    Nothing ":P" "turns pages, and gives whether it could" "^N before P";
-    Nothing ":^T" "types a byte as it is" "n^T, which does so";
+    Nothing ":P" "writes and reads pages, and gives whether it could" "^N before P";
+    Nothing ":^T" "prints a byte as it is" "n^T, which does so";
     Nothing ":A" "appends a page, and gives whether it could" "^N before A";
 };
 
@@ -101,20 +101,20 @@ static OTHERS: [LeftOut; 20] = rows! {
     Nothing "\"<" "tests for less than 0" "\"L";
     Nothing "\">" "tests for more than 0" "\"G";
     Nothing "\"C" "tests for a byte of a name" "\"R, and tests of the other bytes";
-    Nothing "===" "types in hexadecimal" "== types in octal";
+    Nothing "===" "prints in hexadecimal" "== prints in octal";
     Nothing "^B" "gives the date" "leave it out";
     Nothing "^C" "ends, and writes nothing" "Oend$, with !end! after the last EX";
     Nothing "^D" "sets numbers to decimal" "leave it out";
     Nothing "^F" "gives the switches" "leave it out";
     Nothing "^H" "gives the time of day" "leave it out";
-    Nothing "^L" "types a form feed" "12^T";
+    Nothing "^L" "prints a form feed" "12^T";
     Nothing "^O" "sets numbers to octal" "write them in decimal";
     Nothing "^R" "sets the base of numbers" "write them in decimal";
     Nothing "^Q" "gives how many bytes n lines have" "nL for n^QC, and nK for n^QD";
     Nothing "^S" "gives minus the length of what was found or put in last" "note . before and after it";
     Nothing "^Y" "gives the pair of what was found or put in last" "note . before and after it";
     Nothing "^Z" "gives the room of the registers" "leave it out";
-    Nothing "^_" "turns every bit of a number" "-1-n";
+    Nothing "^_" "inverts every bit of a number" "-1-n";
     Nothing "?" "shows each command as it runs" "teco-debug";
     Nothing "W" "shows the screen" "nT, or teco-term";
 };

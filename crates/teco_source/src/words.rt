@@ -46,11 +46,11 @@ fn command_words(command: Command, colons: u8) -> &'static str {
         Command::Kill => "nK  deletes to the nth line after, or with m,nK between two places",
         Command::TypeOut => "nT  types to the nth line after, or with m,nT between two places",
         Command::View => "V  types the line of the pointer",
-        Command::TypeByte => "n^T  types the byte n",
-        Command::Print if colons > 0 => "n:=  types n in decimal, without CR LF",
-        Command::Print => "n=  types n in decimal, with CR LF",
-        Command::PrintOctal if colons > 0 => "n:==  types n in octal, without CR LF",
-        Command::PrintOctal => "n==  types n in octal, with CR LF",
+        Command::TypeByte => "n^T  prints the byte n",
+        Command::Print if colons > 0 => "n:=  prints n in decimal, without CR LF",
+        Command::Print => "n=  prints n in decimal, with CR LF",
+        Command::PrintOctal if colons > 0 => "n:==  prints n in octal, without CR LF",
+        Command::PrintOctal => "n==  prints n in octal, with CR LF",
         Command::NextPage => "Y  reads the next page into an empty buffer",
         Command::TurnPages => "nP  n times: writes the page and its FF, and reads the next",
         Command::WritePage =>
@@ -70,11 +70,11 @@ fn register_words(command: RegisterCommand, colons: u8) -> &'static str {
         RegisterCommand::Set => "nUq  makes n the number of q",
         RegisterCommand::Extract =>
             "nXq  makes lines, or with m,nXq what is between two places, the text of q",
-        RegisterCommand::Get if colons > 0 => ":Gq  types the text of q",
+        RegisterCommand::Get if colons > 0 => ":Gq  prints the text of q",
         RegisterCommand::Get => "Gq  puts the text of q in",
         RegisterCommand::Macro => "Mq  runs the text of q",
         RegisterCommand::Push => "[q  pushes number and text of q",
-        RegisterCommand::Pop => "]q  takes number and text back into q",
+        RegisterCommand::Pop => "]q  pops number and text into q",
     }
 }
 
@@ -90,13 +90,13 @@ fn text_words(command: TextCommand, colons: u8, has_number: bool) -> &'static st
     match command {
         TextCommand::Insert => insert_words(has_number),
         TextCommand::InsertTab => "^Itext$  puts TAB and the text in",
-        TextCommand::TypeOut => "^Atext^A  types the text",
+        TextCommand::TypeOut => "^Atext^A  prints the text",
         TextCommand::Search if colons > 1 =>
             "::Stext$  -1 where the text is at the pointer, which goes after it, else 0",
         TextCommand::Search if colons > 0 =>
-            "n:Stext$  looks for the nth hit, backward where n is below 0, goes after it, and gives -1 or 0",
+            "n:Stext$  looks for the nth match, backward where n is below 0, goes after it, and gives -1 or 0",
         TextCommand::Search =>
-            "nStext$  looks for the nth hit, backward where n is below 0, and goes after it",
+            "nStext$  looks for the nth match, backward where n is below 0, and goes after it",
         TextCommand::SearchPages if colons > 0 =>
             "n:Ntext$  looks on from page to page, writes those that it leaves, and gives -1 or 0",
         TextCommand::SearchPages =>

@@ -14,9 +14,9 @@ use teco_core::NoMemory;
 /// What the help says after the options.
 const AFTER_HELP: &str =
     "In a source $ is ESC, ^J a line end and ^A to ^_ are control bytes; line ends and margins are layout,
-and !! begins a comment after a blank or at the beginning of a line. What a check tells is a line for
+and !! begins a comment after a blank or at the beginning of a line. What a check prints is a line for
 each fault and each hint: FILE:LINE:COLUMN: ILL: .. or FILE:LINE:COLUMN: hint: ..
-Status: 0; 1 a file or memory failed; 2 a fault was found, or a source can't be read; 3 a faulty line.";
+Status: 0; 1 a file or memory failed; 2 a fault was found, or a source can't be read; 3 a wrong command line.";
 
 /// The usage, which the help and each faulty line show.
 const USAGE: &str = "tecol [OPTIONS] [FILE]";
@@ -24,7 +24,7 @@ const USAGE: &str = "tecol [OPTIONS] [FILE]";
 /// What the help tells.
 static PROGRAM: Program = Program {
     name: "tecol",
-    about: "Turns sources of TECO command strings into their bytes and back, and checks them",
+    about: "Makes bytes of sources of TECO command strings, and sources of bytes, and checks them",
     after_help: AFTER_HELP,
     usage: USAGE,
 };
@@ -50,7 +50,7 @@ static ARGUMENTS: [OptionRow; 5] = [
         short: Some('c'),
         takes: Takes::Nothing,
         value: "",
-        help: "Tells what is wrong, and runs nothing",
+        help: "Prints what is wrong, and runs nothing",
     },
     OptionRow {
         name: "output",

@@ -76,7 +76,7 @@ pub(crate) fn conflict_in(line: &Line) -> Option<&'static str>
         Some("the argument '--output <FILE>' cannot be used with more than one INPUT")
     } else if are_awaited(&line.commands) && has_more {
         Some(
-            "more than one INPUT wants commands from '--execute <STRINGS>', '--pages <STRINGS>', '--file <FILE>' or '--bytes <FILE>'",
+            "more than one INPUT needs commands from '--execute <STRINGS>', '--pages <STRINGS>', '--file <FILE>' or '--bytes <FILE>'",
         )
     } else if are_on_standard_input(&line.commands) && has_standard_input {
         Some("standard input cannot be both the commands and an INPUT")
@@ -84,7 +84,7 @@ pub(crate) fn conflict_in(line: &Line) -> Option<&'static str>
         Some("the argument '--in-place' cannot be used with an INPUT that is standard input")
     } else if line.check && are_awaited(&line.commands) {
         Some(
-            "the argument '--check' wants commands from '--execute <STRINGS>', '--pages <STRINGS>', '--file <FILE>' or '--bytes <FILE>'",
+            "the argument '--check' needs commands from '--execute <STRINGS>', '--pages <STRINGS>', '--file <FILE>' or '--bytes <FILE>'",
         )
     } else if keeps_under_no_name(line) {
         Some("the suffix of '--in-place=<SUFFIX>' cannot be empty or have a '/'")

@@ -70,14 +70,14 @@ static OPTIONS: [OptionRow; 18] = [
         short: None,
         takes: Takes::Nothing,
         value: "",
-        help: "Tells the faults of the commands, with their places; runs nothing, and reads no INPUT",
+        help: "Prints the faults of the commands, with their places; runs nothing, and reads no INPUT",
     },
     OptionRow {
         name: "page-lines",
         short: None,
         takes: Takes::Number(1, MOST_PAGE_LINES),
         value: "N",
-        help: "The most lines of a page, at most 1000000000; without it form feeds alone end pages",
+        help: "The most lines of a page, at most 1000000000; without it form feeds end pages",
     },
     OptionRow {
         name: "limit",
@@ -105,7 +105,7 @@ static OPTIONS: [OptionRow; 18] = [
         short: None,
         takes: Takes::Nothing,
         value: "",
-        help: "Types * where a command string is awaited",
+        help: "Prints * where a command string is awaited",
     },
     OptionRow {
         name: "explain",
@@ -119,7 +119,7 @@ static OPTIONS: [OptionRow; 18] = [
         short: Some('q'),
         takes: Takes::Nothing,
         value: "",
-        help: "Tells nothing on standard error of how a run ends; the status stays",
+        help: "Says nothing on standard error of how a run ends; the status stays",
     },
     OptionRow {
         name: "input",

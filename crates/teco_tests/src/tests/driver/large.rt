@@ -6,19 +6,17 @@ use std::alloc::Global;
 use std::test::*;
 use teco_fs::{MemoryDisk, RefusedCall};
 
-/// A row as those of runs, but for the bytes of the one file before and after. [4*3] stands for three lines of four bytes, with their ends.
+/// A row as those of runs, but for the bytes of the one file, which stay. [4*3] stands for three lines of four bytes, with their ends.
 /// Fifteen of these lines have 983055 bytes, and sixteen more than 1048576. Form feeds end pages too, and a vertical tab ends a line.
 const SHORT_PAGES: &str = "
-    - teco -i -p Z-983055\"NZ=^E='I+$ in => => 917519\r\n0\r\n196611\r\n-1\r\n1\r\n-1\r\n2\r\n0\r\n => => => => [65537*14][1*1][65537*243]\x0cx\x0cx\x0b => +[65537*14][1*1]+[65537*15]+[65537*15]+[65537*15]+[65537*15]+[65537*15]+[65537*15]+[65537*15]+[65537*15]+[65537*15]+[65537*15]+[65537*15]+[65537*15]+[65537*15]+[65537*15]+[65537*15]+[65537*15]+[65537*3]\x0c+x\x0c+x\x0b";
+    - teco -i -p Z-983055\"NZ=^E=' in => => 917519\r\n0\r\n196611\r\n-1\r\n1\r\n-1\r\n2\r\n0\r\n => => => => [65537*14][1*1][65537*243]\x0cx\x0cx\x0b";
 
-/// Pages that fit end at form feeds alone.
+/// A line that doesn't fit is BIG.
+const LONG_LINES: &str = "
+    - teco -i -p Z= in => => 2\r\n => => teco: in: --pages:1:3: BIG: a text may have 16777216 bytes: --page-lines N makes smaller pages\n => 2 => [2*1][16777217*1]";
+
+/// So is a page that other strings read.
 const LONG_PAGES: &str = "
-    - teco -i -p Z= in => => 16777216\r\n3\r\n => => => => [4194304*4]\x0c[1*3]";
-
-/// A line that doesn't fit is BIG, and so is a page that doesn't fit if the line says how long pages are, or other strings read it.
-const BIG_PAGES: &str = "
-    - teco -i -p Z= in => => 2\r\n => => teco: in: --pages:1:3: BIG: a text may have 16777216 bytes: --page-lines N makes smaller pages\n => 2 => [2*1][16777217*1]
-    - teco --page-lines 5 -i -p Z= in => => => => teco: in: --pages:1:1: BIG: a text may have 16777216 bytes: --page-lines N makes smaller pages\n => 2 => [4194304*4][2*1]
     - teco -i -e YZ=EX$$ in => => => => teco: in: --execute:1:1: BIG: a text may have 16777216 bytes: --page-lines N makes smaller pages\n => 2 => [4194304*4][2*1]";
 
 /// Puts so many lines of so many bytes, each with its end.
@@ -58,13 +56,10 @@ impl Rule for LargeRuns {
         let before = bytes_with_lines(alloc, cells[6]);
         let mut disk = MemoryDisk::new(alloc, RefusedCall::Nothing);
         let _ = disk.put("in", &before).is_ok() || disk.put("in", &before).is_ok();
-        let Some(disk) = files_after(alloc, disk, &cells) else {
-            return false;
-        };
-        if cells[7].is_empty() {
-            return are_there(disk.bytes("in"), &before);
+        match files_after(alloc, disk, &cells) {
+            Some(disk) => are_there(disk.bytes("in"), &before),
+            None => false,
         }
-        are_there(disk.bytes("in"), &bytes_with_lines(alloc, cells[7]))
     }
 }
 
@@ -74,11 +69,11 @@ fn large_inputs_have_short_pages(rt: HostRuntime) {
 }
 
 #[test]
-fn pages_that_fit_stay_long(rt: HostRuntime) {
-    all_hold(&rt, rt.alloc(), &LargeRuns, LONG_PAGES);
+fn long_lines_on_pages_are_big(rt: HostRuntime) {
+    all_hold(&rt, rt.alloc(), &LargeRuns, LONG_LINES);
 }
 
 #[test]
-fn what_does_not_fit_is_big(rt: HostRuntime) {
-    all_hold(&rt, rt.alloc(), &LargeRuns, BIG_PAGES);
+fn long_pages_of_other_strings_are_big(rt: HostRuntime) {
+    all_hold(&rt, rt.alloc(), &LargeRuns, LONG_PAGES);
 }

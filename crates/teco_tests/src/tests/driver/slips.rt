@@ -92,7 +92,7 @@ const OPTIONS: &str = "
     - teco --ex EX$$ f => => => error: unexpected argument '--ex' found\n\n  tip: a similar argument exists: '--explain'\n\nUsage: teco [OPTIONS] <INPUT>...\n\nFor more information, try '--help'.\n => => 3 => f == old one\nold two\n
     - teco --exec EX$$ f => => => error: unexpected argument '--exec' found\n\n  tip: a similar argument exists: '--execute'\n\nUsage: teco [OPTIONS] <INPUT>...\n\nFor more information, try '--help'.\n => => 3 => f == old one\nold two\n
     - teco --inplace -p D f => => => error: unexpected argument '--inplace' found\n\n  tip: a similar argument exists: '--in-place'\n\nUsage: teco [OPTIONS] <INPUT>...\n\nFor more information, try '--help'.\n => => 3 => f == old one\nold two\n
-    - teco s/old/new/ f => => => error: more than one INPUT wants commands from '--execute <STRINGS>', '--pages <STRINGS>', '--file <FILE>' or '--bytes <FILE>'\n\nUsage: teco [OPTIONS] <INPUT>...\n\nFor more information, try '--help'.\n => => 3 => f == old one\nold two\n
+    - teco s/old/new/ f => => => error: more than one INPUT needs commands from '--execute <STRINGS>', '--pages <STRINGS>', '--file <FILE>' or '--bytes <FILE>'\n\nUsage: teco [OPTIONS] <INPUT>...\n\nFor more information, try '--help'.\n => => 3 => f == old one\nold two\n
     - // No INPUT, or no value.
     - teco -i -p D => => => error: the following required arguments were not provided:\n  <INPUT>\n\nUsage: teco [OPTIONS] <INPUT>...\n\nFor more information, try '--help'.\n => => 3 => f == old one\nold two\n
     - teco f -e => => => error: a value is required for '--execute <STRINGS>' but none was supplied\n\nFor more information, try '--help'.\n => => 3 => f == old one\nold two\n
