@@ -9,14 +9,15 @@ use Rattle.teco_exec.specs.declared.place.Place.{Place}
 use Rattle.teco_debugger.specs.Walk.{KeptWalk}
 use Rattle.teco_debugger.specs.Showing.{call_line, call_lines, each_turn_shown, turns_of_call, turns_shown}
 
-pub no_lines : (w : KeptWalk) (place : Place) (old : List ℕ) → old ≡ old ++ call_lines w place 0
+pub no_lines : (w : KeptWalk) (string : List ℕ) (place : Place) (old : List ℕ) → old ≡ old ++ call_lines w string place 0
 unfolding call_lines
-no_lines w place old = sym (append-nil old)
+no_lines w string place old = sym (append-nil old)
 
-pub more_lines : (w : KeptWalk) (place : Place) (k : ℕ) (old so new : List ℕ) → so ≡ old ++ call_lines w place k → new ≡ so ++ call_line w place k
-    → new ≡ old ++ call_lines w place (k + 1)
+pub more_lines : (w : KeptWalk) (string : List ℕ) (place : Place) (k : ℕ) (old so new : List ℕ) → so ≡ old ++ call_lines w string place k → new ≡ so ++ call_line w string place k
+    → new ≡ old ++ call_lines w string place (k + 1)
 unfolding call_lines
-more_lines w place k old so new a b = rw add-one (b ∙ ap (λ s. s ++ call_line w place k) a ∙ append_assoc old (call_lines w place k) (call_line w place k))
+more_lines w string place k old so new a b =
+    rw add-one (b ∙ ap (λ s. s ++ call_line w string place k) a ∙ append_assoc old (call_lines w string place k) (call_line w string place k))
 
 -- the turns of some open iterations
 pub some_turns : (turns : List (Option ℕ)) (old mid new : List ℕ) → (length turns == 0) ≡ false → mid ≡ old ++ codes "; turns left:" → new ≡ mid ++ each_turn_shown turns

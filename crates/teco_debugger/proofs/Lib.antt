@@ -14,3 +14,5 @@ pub mod Returning
 pub mod WalkEnds
 pub mod Digits
 pub mod Watched
+pub mod Shown
+pub mod Carets

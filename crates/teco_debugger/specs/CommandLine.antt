@@ -1,28 +1,27 @@
--- What the command line says: teco-debug [OPTIONS] MACRO
-use Rattle.std.specs.Prelude.{◌≡◌, ◌↔◌, ◌⊎◌, ⊤, ℕ, List, [], ◌∷◌, codes, min, Option, Some, None, option_map, unwrap_or, true, false, IsTrue}
+-- What the command line says: teco-debug [OPTIONS] [INPUT]
+use Rattle.std.specs.Prelude.{◌≡◌, ◌⊎◌, ⊤, ℕ, ◌≤◌, List, [], ◌∷◌, codes, count_by, is_some, min, Option, Some, None, option_map, false}
 use Rattle.std.specs.String.{string_bytes}
-use Rattle.clap.specs.Words.{App, IsAmong, Row, Rule, Text, fault_of, first_of, matches_of, new_rule, one_of, takes}
-use Rattle.clap.specs.declared.builder.action.ArgAction.TheVariants.{Set}
+use Rattle.clap.specs.Words.{App, IsAmong, Row, Rule, Text, fault_of, first_of, matches_of, one_of, takes}
 use Rattle.clap.specs.declared.error.kind.ErrorKind.{ErrorKind}
 use Rattle.clap.specs.declared.error.kind.ErrorKind.TheVariants as kind
 use Rattle.teco_cli.specs.Values.{IsNumber, number_of}
 use Rattle.teco_cli.specs.Parsing.{program_app}
-use Rattle.teco_cli.specs.OptionTable.{flag, with_number, with_rules, with_text}
-use Rattle.teco_cli.specs.Refusals.{IsToldAs}
+use Rattle.teco_cli.specs.OptionTable.{operand, with_number, with_rules, with_text}
+use Rattle.teco_cli.specs.Refusals.{IsFaulty, IsToldAs}
 use Rattle.teco_cli.specs.declared.fault.LineFault.{LineFault}
 use Rattle.teco_cli.specs.declared.fault.LineFault.TheVariants as line_fault
+use Rattle.teco_cli.specs.declared.options.Takes.TheVariants.{MaybeOperand}
 use Rattle.teco_debugger.specs.declared.line.DebuggerLine.{DebuggerLine}
+use Rattle.teco_debugger.specs.declared.line.Origin.{Origin}
+use Rattle.teco_debugger.specs.declared.line.Origin.TheVariants.{Word, File, Bytes}
 
--- MACRO: any text, and it has to be there
-abbrev pub macro_rule : Rule
-macro_rule = record (new_rule (codes "macro")) { value_names = 1; required = true; action = Some Set }
-
--- the options, and the file of the command string
+-- the options, and the input
 abbrev pub debug_rules : List Rule
-debug_rules = with_number (codes "limit") None 0 1000000000000
-    ∷ with_text (codes "input") None
-    ∷ flag (codes "dollar") None
-    ∷ macro_rule
+debug_rules = with_text (codes "execute") (Some 101)
+    ∷ with_text (codes "file") (Some 102)
+    ∷ with_text (codes "bytes") (Some 98)
+    ∷ with_number (codes "limit") None 0 1000000000000
+    ∷ operand MaybeOperand (codes "input")
     ∷ []
 
 -- The command that the words are read by: the parser's rules for a command with these arguments and no others of its
@@ -36,13 +35,21 @@ abbrev pub IsLimit : Option Text → ℕ → Type 0
 IsLimit (Some text) limit = IsNumber text → limit ≡ min (number_of text) 1000000000000
 IsLimit None limit = limit ≡ 1000000
 
+-- Where the command string comes from, by the texts of --execute, --file and --bytes: from the one that is given.
+abbrev pub IsOrigin : Option Text → Option Text → Option Text → Origin → Type 0
+IsOrigin word file bytes (Word strings) = (word ≡ Some (string_bytes strings)) × (file ≡ None) × (bytes ≡ None)
+IsOrigin word file bytes (File name) = (word ≡ None) × (file ≡ Some (string_bytes name)) × (bytes ≡ None)
+IsOrigin word file bytes (Bytes name) = (word ≡ None) × (file ≡ None) × (bytes ≡ Some (string_bytes name))
+
+-- how many of them are given
+abbrev pub count_given : Option Text → Option Text → Option Text → ℕ
+count_given word file bytes = count_by (λ given. given) (is_some word ∷ is_some file ∷ is_some bytes ∷ [])
+
 -- The line has what a parse gives for each argument.
 pub record LineHas (rows : List Row) (line : DebuggerLine) : Type 0 where
   pub limit : IsLimit (one_of (codes "limit") rows) line.limit
+  pub origin : IsOrigin (first_of (codes "execute") rows) (first_of (codes "file") rows) (first_of (codes "bytes") rows) line.origin
   pub input : first_of (codes "input") rows ≡ option_map string_bytes line.input
-  pub dollar : IsTrue line.dollar ↔ (one_of (codes "dollar") rows ≡ Some (codes "true"))
-  -- MACRO, without which the parser takes no line
-  pub text : string_bytes line.text ≡ unwrap_or (first_of (codes "macro") rows) []
 
 -- The line is what these words say, the program's name first: the parser takes them, and the line has what their
 -- parse gives.
@@ -56,8 +63,28 @@ abbrev pub IsDebugError : List Text → ErrorKind → Type 0
 IsDebugError words error = (error ≡ kind.OutOfMemory)
     ⊎ ((takes debug_app words ≡ false) × IsAmong error (fault_of debug_app words))
 
--- Why the words gave no line: memory was refused, or the line is refused for such an error, and told as what that is.
+-- A line is faulty, and its text says why; or memory was refused to tell it.
+abbrev pub IsFaultSaid : Text → LineFault → Type 0
+IsFaultSaid why line_fault.NoMemory = ⊤
+IsFaultSaid why (line_fault.Refused refusal) = IsFaulty why (codes "teco-debug [OPTIONS] [INPUT]") refusal
+
+-- Such a line gives no command string, or more than one.
+abbrev pub IsMisgiven : Option Text → Option Text → Option Text → LineFault → Type 0
+IsMisgiven word file bytes fault =
+    ((count_given word file bytes ≡ 0) × IsFaultSaid (codes "one of '--execute <STRINGS>', '--file <FILE>' and '--bytes <FILE>' is needed") fault)
+    ⊎ ((2 ≤ count_given word file bytes)
+    × IsFaultSaid (codes "only one of '--execute <STRINGS>', '--file <FILE>' and '--bytes <FILE>' can be used") fault)
+
+-- The parse gives no line: memory was refused, or it is misgiven.
+abbrev pub IsReadFault : List Row → LineFault → Type 0
+IsReadFault rows line_fault.NoMemory = ⊤
+IsReadFault rows (line_fault.Refused refusal) =
+    IsMisgiven (first_of (codes "execute") rows) (first_of (codes "file") rows) (first_of (codes "bytes") rows) (line_fault.Refused refusal)
+
+-- Why the words gave no line: memory was refused; or the parser refuses them for such an error, and that is told as what it is; or
+-- the parser takes them, and they give no command string, or more than one.
 abbrev pub WordsSayNone : List Text → LineFault → Type 0
 WordsSayNone words line_fault.NoMemory = ⊤
 WordsSayNone words (line_fault.Refused refusal) =
-    (error : ErrorKind) × IsDebugError words error × IsToldAs refusal.refused_as error
+    ((error : ErrorKind) × IsDebugError words error × IsToldAs refusal.refused_as error)
+    ⊎ ((fault_of debug_app words ≡ []) × IsReadFault (matches_of debug_app words) (line_fault.Refused refusal))

@@ -13,9 +13,11 @@ use Rattle.teco_debugger.specs.Finding.{last_change}
 use Rattle.teco_debugger.specs.Walk.{KeptWalk, meant, state_there}
 use Rattle.teco_debugger.specs.Help.{help_shown}
 use Rattle.teco_debugger.specs.Listing.{lines_there_shown, registers_shown, state_shown, whole_register}
-use Rattle.teco_debugger.specs.Moving.{Arrives, HasNoStop, IsNextStop, IsSeen, MovesTo, SameRun}
+use Rattle.teco_debugger.specs.Moving.{Arrives, HasNoStop, IsNextStop, MovesTo, SameRun}
 use Rattle.teco_debugger.specs.Showing.{step_shown, where_shown}
+use Rattle.teco_debugger.specs.Sources.{IsShownAt, shown_string}
 use Rattle.teco_debugger.specs.Watching.{IsNearestOther}
+use Rattle.teco_debugger.specs.declared.sources.SourceText.{SourceText}
 use Rattle.teco_debugger.specs.declared.command.DebuggerCommand.{DebuggerCommand}
 use Rattle.teco_debugger.specs.declared.command.DebuggerCommand.TheVariants as command
 use Rattle.teco_debugger.specs.declared.command.CommandFault.{CommandFault}
@@ -219,19 +221,21 @@ abbrev pub OnlyShows : List ℕ → Debugger → Debugger → List ℕ → Type 
 OnlyShows text old new shown = (new ≡ old) × (shown ≡ text)
 
 -- what is shown of where a walk stands
-abbrev pub seen_shown : View → KeptWalk → Seen → List ℕ
-seen_shown Step walk seen = step_shown walk seen
-seen_shown Where walk seen = where_shown walk seen
-seen_shown Typed walk seen = answer_line (spelled seen.typed.items)
+abbrev pub seen_shown : View → KeptWalk → List ℕ → Seen → List ℕ
+seen_shown Step walk string seen = step_shown walk string seen
+seen_shown Where walk string seen = where_shown walk string seen
+seen_shown Typed walk string seen = answer_line (spelled seen.typed.items)
 
 -- This is shown of where a walk stands, behind what was shown before.
-abbrev pub ShowsSeen : View → KeptWalk → List ℕ → List ℕ → Type 0
-ShowsSeen view walk old new = (seen : Seen) × IsSeen walk walk.steps seen × (new ≡ old ++ seen_shown view walk seen)
+abbrev pub ShowsSeen : View → Option SourceText → KeptWalk → List ℕ → List ℕ → Type 0
+ShowsSeen view source walk old new = (seen : Seen) × IsShownAt source walk walk.steps seen
+    × (new ≡ old ++ seen_shown view walk (shown_string source walk.text) seen)
 
 -- Where the walk stands is shown, with all that is open there.
 abbrev pub ShowsWhere : Debugger → Debugger → List ℕ → Type 0
 ShowsWhere old new shown = (new ≡ old)
-    × ((seen : Seen) × IsSeen old.walk old.walk.steps seen × (shown ≡ where_shown old.walk seen))
+    × ((seen : Seen) × IsShownAt old.source old.walk old.walk.steps seen
+    × (shown ≡ where_shown old.walk (shown_string old.source old.walk.text) seen))
 
 -- A line for each command is shown, in their order, with its word and its letter.
 abbrev pub ShowsHelp : Debugger → Debugger → List ℕ → Type 0
@@ -246,8 +250,8 @@ GoesOrSays None words old new shown = OnlyShows (answer_line words) old new show
 -- It goes on to the next step that is there, if such a step comes.
 abbrev pub GoesOnTo : Stop → Debugger → Debugger → List ℕ → Type 0
 GoesOnTo stop old new shown =
-    ((n : ℕ) × IsNextStop old.walk stop (old.walk.steps + 1) n × MovesTo n old new shown)
-    ⊎ (HasNoStop old.walk stop (old.walk.steps + 1) old.limit
+    ((n : ℕ) × IsNextStop old.source old.walk stop (old.walk.steps + 1) n × MovesTo n old new shown)
+    ⊎ (HasNoStop old.source old.walk stop (old.walk.steps + 1) old.limit
     × OnlyShows (answer_line (codes "no step at that place comes, or it is too far")) old new shown)
 
 -- It goes on to the next step at the place to stop at, if one is noted and such a step comes.

@@ -1,5 +1,5 @@
 -- How a run ends: its status, and the line that it tells on standard error.
-use Rattle.std.specs.Prelude.{◌≡◌, ◌⊎◌, ℕ, List, [], ◌++◌, Option, Some, None, codes}
+use Rattle.std.specs.Prelude.{◌≡◌, ◌⊎◌, ℕ, ◌<◌, List, [], ◌++◌, Option, Some, None, codes}
 use Rattle.std.specs.String.{string_bytes}
 use Rattle.std.specs.declared.alloc.Global.{Global}
 use Rattle.std.specs.declared.string.String.{String}
@@ -7,14 +7,19 @@ use Rattle.teco_fs.specs.Reasons.{with_reason}
 use Rattle.teco_fs.specs.Refusing.{Tells}
 use Rattle.teco_io.specs.Terminal.{Screen}
 use Rattle.teco_debugger.specs.declared.ending.Ending.{Ending}
-use Rattle.teco_debugger.specs.declared.ending.Ending.TheVariants.{Done, NoText, NoInput, NoMemory, ReadFault, ShowFault}
+use Rattle.teco_debugger.specs.declared.ending.Ending.TheVariants.{Caret, Done, NoText, NoInput, NoMemory, ReadFault, ShowFault}
+use Rattle.teco_messages.specs.Shown.{spot_shown}
+use Rattle.teco_messages.specs.declared.spot.Spot.{Spot}
 use Rattle.teco_debugger.specs.declared.line.DebuggerLine.{DebuggerLine}
+use Rattle.teco_debugger.specs.declared.line.Origin.{Origin}
+use Rattle.teco_debugger.specs.declared.line.Origin.TheVariants.{Word, File, Bytes}
 use Rattle.teco_debugger.specs.declared.reading.FileFault.{FileFault}
 use Rattle.teco_debugger.specs.declared.reading.FileFault.TheVariants as file
 
--- 0 of a run that is done, 1 where a file, memory or the terminal failed
+-- 0 of a run that is done, 3 if the source is no command string, 1 where a file, memory or the terminal failed
 abbrev pub status_of_ending : Ending → ℕ
 status_of_ending Done = 0
+status_of_ending (Caret spot) = 3
 status_of_ending _ = 1
 
 -- a line that ends by LF
@@ -27,6 +32,16 @@ fault_words name (file.Unread reason) = with_reason (codes "cannot read ") name 
 fault_words name file.TooLarge = name ++ codes " is too large"
 fault_words name file.Memory = name ++ codes ": no memory for it"
 
+-- what is told of a source with a caret at this spot that stands before what it cannot stand before
+abbrev pub caret_words : List ℕ → Spot → List ℕ
+caret_words name spot = name ++ (codes ":" ++ (spot_shown spot ++ codes ": a caret before what it cannot stand before"))
+
+-- what the string is called: by its file's name, or by what its word is
+abbrev pub string_name : Origin → List ℕ
+string_name (Word strings) = codes "strings"
+string_name (File name) = string_bytes name
+string_name (Bytes name) = string_bytes name
+
 -- the name of the input, or nothing if the line names none
 abbrev pub input_name : Option (String Global) → List ℕ
 input_name (Some name) = string_bytes name
@@ -35,7 +50,8 @@ input_name None = []
 -- what is told: a line, or nothing
 abbrev pub ending_line : DebuggerLine → Ending → List ℕ
 ending_line line Done = []
-ending_line line (NoText fault) = told_line (fault_words (string_bytes line.text) fault)
+ending_line line (NoText fault) = told_line (fault_words (string_name line.origin) fault)
+ending_line line (Caret spot) = told_line (caret_words (string_name line.origin) spot)
 ending_line line (NoInput fault) = told_line (fault_words (input_name line.input) fault)
 ending_line line NoMemory = told_line (codes "no memory")
 ending_line line ReadFault = told_line (codes "cannot read commands")
@@ -46,4 +62,4 @@ ending_line line ShowFault = told_line (codes "cannot show")
 pub record TellsEnding (line : DebuggerLine) (ending : Ending) (old new : Screen) (status : ℕ) : Type 0 where
   pub status_is : status ≡ status_of_ending ending
   pub told : Tells old new (ending_line line ending)
-      ⊎ ((status_of_ending ending ≡ 1) × Tells old new (told_line (codes "no memory")))
+      ⊎ ((0 < status_of_ending ending) × Tells old new (told_line (codes "no memory")))

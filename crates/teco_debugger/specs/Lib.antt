@@ -8,6 +8,7 @@ pub mod Program
 pub mod Reading
 pub mod Serving
 pub mod Showing
+pub mod Sources
 pub mod Spelling
 pub mod Walk
 pub mod Watching

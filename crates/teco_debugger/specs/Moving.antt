@@ -1,25 +1,17 @@
 -- The moves of a walk, and where it stops on the way.
 use Rattle.std.specs.Prelude.{◌≡◌, ◌↔◌, ◌⊎◌, ℕ, zero, suc, ◌+◌, ◌≤◌, ◌<◌, ◌==◌, ◌&&◌, Bool, true, false, List, [], ◌∷◌, ◌++◌, length, nat_le, Option, Some, None, IfSome}
-use Rattle.teco_exec.specs.Telling.{IsLastPlace}
 use Rattle.teco_exec.specs.declared.place.Place.{Place}
-use Rattle.teco_store.specs.State.{beginning}
 use Rattle.teco_messages.specs.Spot.{spot_of}
 use Rattle.teco_messages.specs.declared.spot.Spot.{Spot}
 use Rattle.teco_debugger.specs.Walk.{KeptWalk, SameString, meant}
 use Rattle.teco_debugger.specs.declared.walk.Seen.{Seen}
 use Rattle.teco_debugger.specs.Showing.{step_shown}
+use Rattle.teco_debugger.specs.Sources.{IsShownAt, shown_string}
+use Rattle.teco_debugger.specs.declared.sources.SourceText.{SourceText}
 use Rattle.teco_debugger.specs.declared.debugger.Debugger.{Debugger}
 use Rattle.teco_debugger.specs.declared.stops.Stop.{Stop}
 use Rattle.teco_debugger.specs.declared.stops.Stop.TheVariants.{At, Line}
 use Rattle.teco_debugger.specs.declared.stops.TheConstants.{MOST_WORK}
-
--- what a run of the string under a limit of n steps shows: how it ended, what it typed, and where it last stood
-pub record IsSeen (walk : KeptWalk) (n : ℕ) (seen : Seen) : Type 0 where
-  pub place : IfSome seen.place (λ p. IsLastPlace (beginning walk.input) walk.text seen.outcome.steps p)
-  pub told : (seen.place ≡ None) ↔ (seen.outcome.code ≡ None)
-  pub steps : seen.outcome.steps ≡ (meant walk.input walk.text n).steps
-  pub code : seen.outcome.code ≡ (meant walk.input walk.text n).code
-  pub typed : seen.typed.items ≡ (meant walk.input walk.text n).typed
 
 -- The walk goes to the state after the first n steps of the string, or after all that it takes under a limit of n.
 pub record Goes (n : ℕ) (old new : KeptWalk) : Type 0 where
@@ -36,8 +28,9 @@ pub record SameRun (old new : Debugger) : Type 0 where
 pub record Arrives (n : ℕ) (old new : Debugger) (shown : List ℕ) : Type 0 where
   pub goes : Goes n old.walk new.walk
   pub seen : Seen
-  pub seen_is : IsSeen new.walk new.walk.steps seen
-  pub shown_is : shown ≡ step_shown new.walk seen
+  pub seen_is : IsShownAt new.source new.walk new.walk.steps seen
+  pub shown_is : shown ≡ step_shown new.walk (shown_string new.source new.walk.text) seen
+  pub source : new.source ≡ old.source
   pub limit : new.limit ≡ old.limit
   -- the place to stop at
   pub stop : new.stop ≡ old.stop
@@ -63,18 +56,19 @@ is_stop text stop n None = false
 is_stop text stop n (Some place) = place.steps == n && is_at text stop place
 
 -- The run of the string under a limit of n steps stands at the place to stop at, or not.
-abbrev pub StopsOr : KeptWalk → Stop → ℕ → Bool → Type 0
-StopsOr walk stop n so = (seen : Seen) × IsSeen walk n seen × (is_stop walk.text stop n seen.place ≡ so)
+abbrev pub StopsOr : Option SourceText → KeptWalk → Stop → ℕ → Bool → Type 0
+StopsOr source walk stop n so =
+    (seen : Seen) × IsShownAt source walk n seen × (is_stop (shown_string source walk.text) stop n seen.place ≡ so)
 
 -- No step from the one to the other, which is not among them, is at the place to stop at.
-abbrev pub PassesBetween : KeptWalk → Stop → ℕ → ℕ → Type 0
-PassesBetween walk stop from to = (n : ℕ) → from ≤ n → n < to → StopsOr walk stop n false
+abbrev pub PassesBetween : Option SourceText → KeptWalk → Stop → ℕ → ℕ → Type 0
+PassesBetween source walk stop from to = (n : ℕ) → from ≤ n → n < to → StopsOr source walk stop n false
 
 -- The step is the first one from there on that is at the place to stop at.
-pub record IsNextStop (walk : KeptWalk) (stop : Stop) (from n : ℕ) : Type 0 where
+pub record IsNextStop (source : Option SourceText) (walk : KeptWalk) (stop : Stop) (from n : ℕ) : Type 0 where
   pub after : from ≤ n
-  pub here : StopsOr walk stop n true
-  pub passed : PassesBetween walk stop from n
+  pub here : StopsOr source walk stop n true
+  pub passed : PassesBetween source walk stop from n
 
 -- how many steps are run to look at each step below n, each from the beginning
 unfoldable pub work_below : ℕ → ℕ
@@ -83,8 +77,8 @@ work_below (suc n) = work_below n + n
 
 -- No step up to some other one is at the place to stop at, and the way ends there: at the limit, behind the last step
 -- of the string, or where it takes too much work to look on.
-pub record HasNoStop (walk : KeptWalk) (stop : Stop) (from limit : ℕ) : Type 0 where
+pub record HasNoStop (source : Option SourceText) (walk : KeptWalk) (stop : Stop) (from limit : ℕ) : Type 0 where
   pub to : ℕ
-  pub passed : PassesBetween walk stop from to
+  pub passed : PassesBetween source walk stop from to
   pub ends : (limit ≤ to) ⊎ (((meant walk.input walk.text to).steps < to)
       ⊎ (MOST_WORK + work_below from < work_below (suc to)))

@@ -7,7 +7,7 @@ use Rattle.teco_debugger.specs.Commands.{IsAnswerTo, command_of, is_leaving}
 use Rattle.teco_debugger.specs.Moving.{SameRun}
 use Rattle.teco_debugger.specs.declared.debugger.Debugger.{Debugger}
 use Rattle.teco_debugger.specs.declared.ending.Ending.{Ending}
-use Rattle.teco_debugger.specs.declared.ending.Ending.TheVariants.{Done, NoText, NoInput, NoMemory, ReadFault, ShowFault}
+use Rattle.teco_debugger.specs.declared.ending.Ending.TheVariants.{Caret, Done, NoText, NoInput, NoMemory, ReadFault, ShowFault}
 use Prim.Native.Char.{code}
 
 -- what is seen of a serving at a moment: the bytes of the commands that are still to come, where they are known, the
@@ -39,6 +39,7 @@ Obeys line (Some ShowFault) old new before after = (shown : List ℕ) × IsAnswe
 -- memory was refused, even to say so
 Obeys line (Some NoMemory) old new before after = SameRun old new × (after ≡ before)
 Obeys line (Some ReadFault) old new before after = ⊥
+Obeys line (Some (Caret spot)) old new before after = ⊥
 Obeys line (Some (NoText fault)) old new before after = ⊥
 Obeys line (Some (NoInput fault)) old new before after = ⊥
 

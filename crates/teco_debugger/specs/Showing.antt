@@ -16,16 +16,16 @@ use Rattle.teco_debugger.specs.declared.walk.Seen.{Seen}
 use Rattle.teco_debugger.specs.declared.showing.TheConstants.{MOST_FAULTY}
 use Prim.Native.Char.{code}
 
--- the text whose token is shown: what a register holds, or the string
-abbrev pub innermost : KeptWalk → Place → List ℕ
-innermost w place = text_under place 0 (state_there w).registers w.text
+-- the text whose token is shown: what a register holds, or the string as it is shown
+abbrev pub innermost : KeptWalk → List ℕ → Place → List ℕ
+innermost w string place = text_under place 0 (state_there w).registers string
 
 -- where the walk stands, and the token there
-abbrev pub place_there : KeptWalk → Option Place → List ℕ
-place_there w None = codes "the end"
-place_there w (Some place) =
-    standing_shown place (state_there w).registers w.text ++ codes ", "
-    ++ spelled (token_in (innermost w place) place.at MOST_FAULTY)
+abbrev pub place_there : KeptWalk → List ℕ → Option Place → List ℕ
+place_there w string None = codes "the end"
+place_there w string (Some place) =
+    standing_shown place (state_there w).registers string ++ codes ", "
+    ++ spelled (token_in (innermost w string place) place.at MOST_FAULTY)
 
 -- a code, but not that of the walk's own limit
 abbrev pub code_there : Option Code → List ℕ
@@ -34,9 +34,9 @@ code_there (Some Lim) = []
 code_there (Some code) = code_shown code
 
 -- the step, the place, the token and the code, in a line
-abbrev pub step_shown : KeptWalk → Seen → List ℕ
-step_shown w seen =
-    codes "step " ++ decimal w.steps ++ codes ", " ++ place_there w seen.place ++ code_there seen.outcome.code ++ codes "\n"
+abbrev pub step_shown : KeptWalk → List ℕ → Seen → List ℕ
+step_shown w string seen =
+    codes "step " ++ decimal w.steps ++ codes ", " ++ place_there w string seen.place ++ code_there seen.outcome.code ++ codes "\n"
 
 -- where the line of a place begins and ends
 abbrev pub line_start_of : List ℕ → ℕ → ℕ
@@ -94,21 +94,21 @@ turns_of_call None = []
 turns_of_call (Some call) = call.turns.items
 
 -- the line of an open call, of which k are later
-unfoldable pub call_line : KeptWalk → Place → ℕ → List ℕ
-call_line w place k =
-    call_shown place k (state_there w).registers w.text ++ turns_shown (turns_of_call (slice_get place.calls.items k)) ++ codes "\n"
+unfoldable pub call_line : KeptWalk → List ℕ → Place → ℕ → List ℕ
+call_line w string place k =
+    call_shown place k (state_there w).registers string ++ turns_shown (turns_of_call (slice_get place.calls.items k)) ++ codes "\n"
 
 -- the lines of the latest so many of the open calls
-unfoldable pub call_lines : KeptWalk → Place → ℕ → List ℕ
-call_lines w place zero = []
-call_lines w place (suc k) = call_lines w place k ++ call_line w place k
+unfoldable pub call_lines : KeptWalk → List ℕ → Place → ℕ → List ℕ
+call_lines w string place zero = []
+call_lines w string place (suc k) = call_lines w string place k ++ call_line w string place k
 
-abbrev pub lines_there : KeptWalk → Option Place → List ℕ
-lines_there w None = []
-lines_there w (Some place) =
-    line_there (innermost w place) place.at ++ here_shown place.turns.items
-    ++ call_lines w place (length place.calls.items)
+abbrev pub lines_there : KeptWalk → List ℕ → Option Place → List ℕ
+lines_there w string None = []
+lines_there w string (Some place) =
+    line_there (innermost w string place) place.at ++ here_shown place.turns.items
+    ++ call_lines w string place (length place.calls.items)
 
 -- the step, the line with its token marked, the open iterations and calls
-abbrev pub where_shown : KeptWalk → Seen → List ℕ
-where_shown w seen = step_shown w seen ++ lines_there w seen.place
+abbrev pub where_shown : KeptWalk → List ℕ → Seen → List ℕ
+where_shown w string seen = step_shown w string seen ++ lines_there w string seen.place

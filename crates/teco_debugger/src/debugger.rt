@@ -9,6 +9,7 @@ use crate::help::{show_help, verb_rows};
 use crate::listing::{show_register, show_registers, show_state, show_text};
 use crate::moving::{ahead, behind};
 use crate::showing::{show_step, show_where};
+use crate::sources::{SourceText, look, shown_string};
 use crate::stops::{Stop, next_stop};
 use crate::watching::nearest_other;
 use crate::{Counted, DebuggerCommand, Plain, Walk, Watch, Way};
@@ -25,6 +26,8 @@ pub struct Debugger {
     /// Where the walk stood before each move that can be taken back.
     moves: Vec<u64>,
     stop: Option<Spot>,
+    /// The source of the string, if it has one.
+    source: Option<SourceText>,
 }
 
 /// Shows a line of words.
@@ -65,11 +68,12 @@ pub enum View {
 }
 
 impl Debugger {
-    pub fn new(walk: Walk, limit: u64) -> Debugger
+    pub fn new(walk: Walk, limit: u64, source: Option<SourceText>) -> Debugger
         ensures walk { result.walk ≡ walk }
         ensures limit { result.limit ≡ limit }
         ensures moves { result.moves.items ≡ [] }
         ensures stop { result.stop ≡ None }
+        ensures source { result.source ≡ source }
     {
         let moves = Vec::new(walk.alloc());
         Debugger {
@@ -77,17 +81,19 @@ impl Debugger {
             limit,
             moves,
             stop: None,
+            source,
         }
     }
 
     /// Shows where the walk stands.
     fn show(&self, out: &mut String, view: View) -> Result<(), NoMemory>
-        ensures { OnOk result (ShowsSeen view self.now.walk (string_bytes out.old) (string_bytes out.new)) }
+        ensures { OnOk result (ShowsSeen view self.now.source self.now.walk (string_bytes out.old) (string_bytes out.new)) }
     {
-        let seen = self.walk.look(self.walk.steps())?;
+        let seen = look(&self.walk, &self.source, self.walk.steps())?;
+        let string = shown_string(&self.source, self.walk.text());
         match view {
-            View::Step => show_step(out, &self.walk, &seen),
-            View::Where => show_where(out, &self.walk, &seen),
+            View::Step => show_step(out, &self.walk, string, &seen),
+            View::Where => show_where(out, &self.walk, string, &seen),
             View::Typed => show_typed(out, seen.typed.as_slice()),
         }
     }
@@ -149,15 +155,15 @@ impl Debugger {
 
     /// The next step at the place to stop at.
     fn next_stop(&self, stop: Stop) -> Result<Option<u64>, NoMemory>
-        ensures found { IfOk result (λ found. IfSome found (IsNextStop self.now.walk stop (self.now.walk.steps + 1))) }
+        ensures found { IfOk result (λ found. IfSome found (IsNextStop self.now.source self.now.walk stop (self.now.walk.steps + 1))) }
         ensures none { IfOk result (λ found. IfNone found
-            (HasNoStop self.now.walk stop (self.now.walk.steps + 1) self.now.limit)) }
+            (HasNoStop self.now.source self.now.walk stop (self.now.walk.steps + 1) self.now.limit)) }
     {
         let steps = self.walk.steps();
         if steps >= self.limit {
             return Ok(None);
         }
-        next_stop(&self.walk, stop, steps + 1, self.limit)
+        next_stop(&self.walk, &self.source, stop, steps + 1, self.limit)
     }
 
     /// Goes on to the next step that is there.

@@ -1,15 +1,16 @@
 //! How a run ends, and what is told of it.
-ghost use Rattle.std.specs.Prelude.{◌≡◌, ◌++◌, IfOk, OnErr};
+ghost use Rattle.std.specs.Prelude.{◌≡◌, ◌<◌, ◌++◌, IfOk, OnErr};
 ghost use Rattle.std.specs.String.{string_bytes};
 ghost use Rattle.teco_debugger.specs.declared.reading.FileFault.TheVariants.{Unread};
-ghost use Rattle.teco_debugger.specs.Ending.{TellsEnding, ending_line, fault_words, input_name, status_of_ending, told_line};
+ghost use Rattle.teco_debugger.specs.Ending.{TellsEnding, caret_words, ending_line, fault_words, input_name, status_of_ending, string_name, told_line};
 
-use crate::line::DebuggerLine;
+use crate::line::{DebuggerLine, Origin};
 use crate::reading::FileFault;
 use std::alloc::Global;
 use teco_core::NoMemory;
 use teco_fs::{Reason, tell};
 use teco_io::Terminal;
+use teco_messages::Spot;
 
 /// What is told if memory is refused to the program.
 pub const NO_MEMORY: &[u8] = b"teco-debug: no memory\n";
@@ -23,6 +24,8 @@ pub enum Ending {
     NoText(FileFault),
     /// The file of the input is not had.
     NoInput(FileFault),
+    /// At this spot of the source a caret stands before what it cannot stand before.
+    Caret(Spot),
     NoMemory,
     /// The commands cannot be read.
     ReadFault,
@@ -37,6 +40,16 @@ impl From<NoMemory> for Ending {
 
     fn from(_: NoMemory) -> Ending {
         Ending::NoMemory
+    }
+}
+
+/// What the string is called: by its file's name, or by what its word is.
+fn string_name(line: &DebuggerLine) -> &str
+    ensures { result.now ≡ string_name line.now.origin }
+{
+    match &line.origin {
+        Origin::Word(_) => "strings",
+        Origin::File(name) | Origin::Bytes(name) => name.as_str(),
     }
 }
 
@@ -65,6 +78,13 @@ fn told_unread(alloc: Global, name: &str, reason: Reason) -> Result<String, NoMe
     format!(in alloc; "teco-debug: cannot read {name}: {why}\n")
 }
 
+/// A line of a source that is no command string.
+fn told_caret(alloc: Global, name: &str, spot: Spot) -> Result<String, NoMemory>
+    ensures { IfOk result (λ text. string_bytes text ≡ told_line (caret_words name.now spot)) }
+{
+    format!(in alloc; "teco-debug: {name}:{spot}: a caret before what it cannot stand before\n")
+}
+
 /// A line of a file that is not had.
 fn told_fault(alloc: Global, name: &str, fault: FileFault) -> Result<String, NoMemory>
     ensures { IfOk result (λ text. string_bytes text ≡ told_line (fault_words name.now fault)) }
@@ -79,24 +99,26 @@ fn told_fault(alloc: Global, name: &str, fault: FileFault) -> Result<String, NoM
 /// What is told: a line, or nothing.
 fn line_of(alloc: Global, line: &DebuggerLine, ending: Ending) -> Result<String, NoMemory>
     ensures ok { IfOk result (λ text. string_bytes text ≡ ending_line line.now ending) }
-    ensures err { OnErr result (status_of_ending ending ≡ 1) }
+    ensures err { OnErr result (0 < status_of_ending ending) }
 {
     match ending {
         Ending::Done => Ok(String::new(alloc)),
-        Ending::NoText(fault) => told_fault(alloc, line.text.as_str(), fault),
+        Ending::NoText(fault) => told_fault(alloc, string_name(line), fault),
         Ending::NoInput(fault) => told_fault(alloc, input_name(line), fault),
+        Ending::Caret(spot) => told_caret(alloc, string_name(line), spot),
         Ending::NoMemory => told(alloc, "", "no memory"),
         Ending::ReadFault => told(alloc, "", "cannot read commands"),
         Ending::ShowFault => told(alloc, "", "cannot show"),
     }
 }
 
-/// 0 of a run that is done, otherwise 1.
+/// 0 of a run that is done, 3 of a source that is no command string, otherwise 1.
 fn status(ending: Ending) -> u8
     ensures { result ≡ status_of_ending ending }
 {
     match ending {
         Ending::Done => 0,
+        Ending::Caret(_) => 3,
         _ => 1,
     }
 }

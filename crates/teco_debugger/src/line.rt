@@ -1,33 +1,50 @@
 //! The program's command line.
-ghost use Rattle.clap.specs.Words.{found_of, one_of, rows_of};
-ghost use Rattle.std.specs.Prelude.{[], ◌≡◌, ◌≤◌, IfErr, IfOk, codes, map, option_map, unwrap_or};
+ghost use Rattle.clap.specs.Words.{first_of, found_of, one_of, rows_of};
+ghost use Rattle.std.specs.Prelude.{◌≡◌, ◌≤◌, IfErr, IfOk, codes, map, option_map};
 ghost use Rattle.std.specs.String.{string_bytes};
 ghost use Rattle.teco_cli.specs.OptionTable.{rule_by};
-ghost use Rattle.teco_debugger.specs.CommandLine.{IsLimit, LineHas, WordsSay, WordsSayNone, debug_rules};
+ghost use Rattle.teco_debugger.specs.CommandLine.{IsFaultSaid, IsLimit, IsMisgiven, IsOrigin, IsReadFault, LineHas, WordsSay, WordsSayNone, debug_rules};
 
 use clap::ArgMatches;
 use std::alloc::Global;
 use teco_cli::{
-    CommandLine, LineFault, MOST_STEPS, OptionRow, Program, Takes, flag_at, parsed, text_at,
+    CommandLine, LineFault, MOST_STEPS, OptionRow, Program, Takes, faulty, parsed, text_at,
 };
+use teco_core::NoMemory;
 
 /// The steps that the string is given if the line says nothing.
 const STEPS: u64 = 1_000_000;
 
 /// The usage, which the help and each faulty line show.
-const USAGE: &str = "teco-debug [OPTIONS] <MACRO>";
+const USAGE: &str = "teco-debug [OPTIONS] [INPUT]";
+
+/// What is told of a line that gives no command string.
+const NONE: &str = "one of '--execute <STRINGS>', '--file <FILE>' and '--bytes <FILE>' is needed";
+
+/// What is told of a line that gives more than one.
+const MANY: &str =
+    "only one of '--execute <STRINGS>', '--file <FILE>' and '--bytes <FILE>' can be used";
+
+/// Where the command string comes from.
+#[derive(Drop)]
+pub enum Origin {
+    /// A word of the line, which is a source.
+    Word(String),
+    /// The file of this name, which is a source.
+    File(String),
+    /// The file of this name, as it is.
+    Bytes(String),
+}
 
 /// What the command line says.
 #[derive(Drop)]
 pub struct DebuggerLine {
     /// The most steps of the string, at most [`MOST_STEPS`].
     pub limit: u64,
+    /// Where the string comes from.
+    pub origin: Origin,
     /// The file of the input, if one is given.
     pub input: Option<String>,
-    /// Whether each `$` of the string is ESC.
-    pub dollar: bool,
-    /// The file of the string.
-    pub text: String,
 }
 
 /// What the help tells.
@@ -38,8 +55,29 @@ static PROGRAM: Program = Program {
     usage: USAGE,
 };
 
-/// Every option, in the order of the help, and then the file of the string.
-static ARGUMENTS: [OptionRow; 4] = [
+/// Every option, in the order of the help, and then the input.
+static ARGUMENTS: [OptionRow; 5] = [
+    OptionRow {
+        name: "execute",
+        short: Some('e'),
+        takes: Takes::Text,
+        value: "STRINGS",
+        help: "The command string: $ is ESC, ^J a line end, and !! begins a comment",
+    },
+    OptionRow {
+        name: "file",
+        short: Some('f'),
+        takes: Takes::Text,
+        value: "FILE",
+        help: "A file of the same kind",
+    },
+    OptionRow {
+        name: "bytes",
+        short: Some('b'),
+        takes: Takes::Text,
+        value: "FILE",
+        help: "The file that the command string is read from, as it is",
+    },
     OptionRow {
         name: "limit",
         short: None,
@@ -50,23 +88,9 @@ static ARGUMENTS: [OptionRow; 4] = [
     OptionRow {
         name: "input",
         short: None,
-        takes: Takes::Text,
-        value: "FILE",
+        takes: Takes::MaybeOperand,
+        value: "INPUT",
         help: "The file that the string edits; it is only read",
-    },
-    OptionRow {
-        name: "dollar",
-        short: None,
-        takes: Takes::Nothing,
-        value: "",
-        help: "Takes each $ of the string for ESC",
-    },
-    OptionRow {
-        name: "macro",
-        short: None,
-        takes: Takes::Operand,
-        value: "MACRO",
-        help: "The file of the command string",
     },
 ];
 
@@ -84,13 +108,36 @@ fn arguments() -> &'static [OptionRow]
     &ARGUMENTS
 }
 
-/// The text, or an empty one.
-fn text_or_empty(alloc: Global, text: Option<String>) -> String
-    ensures { string_bytes result ≡ unwrap_or (option_map string_bytes text) [] }
+/// The fault of a line that is faulty, and why; or that memory was refused to tell it.
+fn faulty_line(alloc: Global, why: &str) -> LineFault
+    ensures { IsFaultSaid why.now result }
 {
-    match text {
-        Some(text) => text,
-        None => String::new(alloc),
+    match faulty(alloc, why, USAGE) {
+        Ok(refusal) => LineFault::Refused(refusal),
+        Err(NoMemory) => LineFault::NoMemory,
+    }
+}
+
+/// Where the string comes from, by the texts that are given. A line has to give it once.
+fn origin_of(
+    alloc: Global,
+    word: Option<String>,
+    file: Option<String>,
+    bytes: Option<String>,
+) -> Result<Origin, LineFault>
+    ensures origin { IfOk result (IsOrigin (option_map string_bytes word) (option_map string_bytes file) (option_map string_bytes bytes)) }
+    ensures refused { IfErr result (IsMisgiven (option_map string_bytes word) (option_map string_bytes file) (option_map string_bytes bytes)) }
+{
+    let is_many = (word.is_some() && (file.is_some() || bytes.is_some()))
+        || (file.is_some() && bytes.is_some());
+    if is_many {
+        return Err(faulty_line(alloc, MANY));
+    }
+    match (word, file, bytes) {
+        (Some(word), _, _) => Ok(Origin::Word(word)),
+        (None, Some(name), _) => Ok(Origin::File(name)),
+        (None, None, Some(name)) => Ok(Origin::Bytes(name)),
+        (None, None, None) => Err(faulty_line(alloc, NONE)),
     }
 }
 
@@ -105,23 +152,66 @@ fn limit_at(matches: &ArgMatches) -> u64
         .min(MOST_STEPS)
 }
 
+/// The texts that a parse gives.
+#[derive(Drop)]
+struct Texts {
+    word: Option<String>,
+    file: Option<String>,
+    bytes: Option<String>,
+    input: Option<String>,
+}
+
+/// The texts that a parse gives.
+fn texts_in<'a>(alloc: Global, matches: &ArgMatches<'a>) -> Result<Texts, NoMemory>
+    ensures word { IfOk result (λ t. first_of (codes "execute") (rows_of (found_of matches.now)) ≡ option_map string_bytes t.word) }
+    ensures file { IfOk result (λ t. first_of (codes "file") (rows_of (found_of matches.now)) ≡ option_map string_bytes t.file) }
+    ensures bytes { IfOk result (λ t. first_of (codes "bytes") (rows_of (found_of matches.now)) ≡ option_map string_bytes t.bytes) }
+    ensures input { IfOk result (λ t. first_of (codes "input") (rows_of (found_of matches.now)) ≡ option_map string_bytes t.input) }
+{
+    let word = text_at(alloc, matches, "execute")?;
+    let file = text_at(alloc, matches, "file")?;
+    let bytes = text_at(alloc, matches, "bytes")?;
+    let input = text_at(alloc, matches, "input")?;
+    Ok(Texts {
+        word,
+        file,
+        bytes,
+        input,
+    })
+}
+
+/// The line with these texts and this limit.
+fn line_with(alloc: Global, texts: Texts, limit: u64) -> Result<DebuggerLine, LineFault>
+    ensures limit { IfOk result (λ line. line.limit ≡ limit) }
+    ensures origin { IfOk result (λ line. IsOrigin (option_map string_bytes texts.word) (option_map string_bytes texts.file)
+        (option_map string_bytes texts.bytes) line.origin) }
+    ensures input { IfOk result (λ line. line.input ≡ texts.input) }
+    ensures refused { IfErr result (IsMisgiven (option_map string_bytes texts.word) (option_map string_bytes texts.file)
+        (option_map string_bytes texts.bytes)) }
+{
+    match origin_of(alloc, texts.word, texts.file, texts.bytes) {
+        Ok(origin) => Ok(DebuggerLine {
+            limit,
+            origin,
+            input: texts.input,
+        }),
+        Err(fault) => Err(fault),
+    }
+}
+
 /// The line that a parse gives.
 fn line_in<'a>(alloc: Global, matches: &ArgMatches<'a>) -> Result<DebuggerLine, LineFault>
     ensures line { IfOk result (LineHas (rows_of (found_of matches.now))) }
     ensures range { IfOk result (λ line. line.limit ≤ 1000000000000) }
-    ensures refused { IfErr result (λ fault. fault ≡ LineFault.NoMemory) }
+    ensures refused { IfErr result (IsReadFault (rows_of (found_of matches.now))) }
 {
-    let text = text_or_empty(alloc, text_at(alloc, matches, "macro")?);
-    let input = text_at(alloc, matches, "input")?;
-    Ok(DebuggerLine {
-        limit: limit_at(matches),
-        input,
-        dollar: flag_at(matches, "dollar"),
-        text,
-    })
+    match texts_in(alloc, matches) {
+        Ok(texts) => line_with(alloc, texts, limit_at(matches)),
+        Err(NoMemory) => Err(LineFault::NoMemory),
+    }
 }
 
-/// What the words say, the program's name first: `teco-debug [--limit N] [--input FILE] [--dollar] MACRO`.
+/// What the words say, the program's name first: `teco-debug [OPTIONS] [INPUT]`.
 fn line_of(alloc: Global, words: &[String]) -> Result<DebuggerLine, LineFault>
     ensures line { IfOk result (WordsSay (map string_bytes words.now)) }
     ensures range { IfOk result (λ line. line.limit ≤ 1000000000000) }
@@ -134,7 +224,7 @@ fn line_of(alloc: Global, words: &[String]) -> Result<DebuggerLine, LineFault>
 }
 
 impl CommandLine for DebuggerLine {
-    ghost usage = { codes "teco-debug [OPTIONS] <MACRO>" };
+    ghost usage = { codes "teco-debug [OPTIONS] [INPUT]" };
 
     ghost says = { WordsSay };
 

@@ -1,18 +1,24 @@
 //! Reading files.
-ghost use Rattle.std.specs.Prelude.{◌≡◌, ◌≤◌, IfErr, IfOk, vec_len, map};
+ghost use Rattle.std.specs.Prelude.{◌≡◌, ◌≤◌, IfErr, IfOk, Ok, vec_len, map};
 ghost use Rattle.teco_core.specs.declared.limits.TheConstants.{FILE_LIMIT};
 ghost use Rattle.teco_fs.specs.Reading.{IsInput};
 ghost use Rattle.teco_fs.specs.Reasons.{ComesTo};
 ghost use Rattle.teco_debugger.specs.declared.reading.FileFault.TheVariants as file;
 ghost use Rattle.teco_fs.specs.Seen.{KeepsDisk, disk_seen};
-ghost use Rattle.teco_debugger.specs.Reading.{IsNotRead};
+ghost use Rattle.teco_debugger.specs.Reading.{IsGivenBy, IsNotRead, IsUnreadable};
+ghost use Rattle.teco_source.specs.Places.{places_of};
+ghost use Rattle.teco_source.specs.Source.{commands_of};
 ghost use Rattle.teco_debugger.specs.Spelling.{escaped};
 
+use crate::SourceText;
+use crate::ending::Ending;
 use std::alloc::Global;
 use std::io;
 use teco_core::{ESC, FILE_LIMIT, NoMemory};
 use teco_fs::{Disk, Reason, reason_of, unless_memory};
 use teco_io::{InputFault, read_input};
+use teco_messages::spot_of;
+use teco_source::{ReaderFault, beginnings, commands};
 
 /// Why a file is not had.
 #[derive(Clone, Copy)]
@@ -69,15 +75,57 @@ pub fn read_file<D: Disk>(alloc: Global, name: &str, disk: &mut D) -> Result<Vec
     }
 }
 
-/// The byte that a byte of a string stands for where a dollar sign is ESC.
+/// The byte that a byte of a source is shown as.
 fn escaped(byte: u8) -> u8
     ensures { result ≡ escaped byte }
 {
     if byte == b'$' { ESC } else { byte }
 }
 
-/// The string with each dollar sign made ESC.
-pub fn with_escapes(alloc: Global, text: &[u8]) -> Result<Vec<u8>, NoMemory>
+/// A command string, and the source that it was read from, if it is one.
+#[derive(Drop)]
+pub struct Given {
+    pub text: Vec<u8>,
+    pub source: Option<SourceText>,
+}
+
+/// The bytes that a source stands for.
+fn commands_in(alloc: Global, source: &[u8]) -> Result<Vec<u8>, Ending>
+    ensures read { IfOk result (λ text. commands_of source.now ≡ Ok text.items) }
+    ensures fault { IfErr result (IsUnreadable source.now) }
+{
+    match commands(alloc, source) {
+        Ok(text) => Ok(text),
+        Err(ReaderFault::Memory) => Err(Ending::NoMemory),
+        Err(ReaderFault::Caret(place)) => Err(Ending::Caret(spot_of(source, place))),
+    }
+}
+
+/// A source as it is shown.
+fn source_text(alloc: Global, source: &[u8]) -> Result<SourceText, NoMemory>
+    ensures text { IfOk result (λ shown. shown.text.items ≡ map escaped source.now) }
+    ensures places { IfOk result (λ shown. shown.places.items ≡ places_of source.now) }
+{
+    let text = with_escapes(alloc, source)?;
+    let places = beginnings(alloc, source)?;
+    Ok(SourceText { text, places })
+}
+
+/// The command string of a source.
+pub fn given_by(alloc: Global, source: &[u8]) -> Result<Given, Ending>
+    ensures given { IfOk result (IsGivenBy source.now) }
+    ensures fault { IfErr result (IsUnreadable source.now) }
+{
+    let text = commands_in(alloc, source)?;
+    let shown = source_text(alloc, source)?;
+    Ok(Given {
+        text,
+        source: Some(shown),
+    })
+}
+
+/// The source with each dollar sign made ESC.
+fn with_escapes(alloc: Global, text: &[u8]) -> Result<Vec<u8>, NoMemory>
     ensures { IfOk result (λ string. string.items ≡ map escaped text.now) }
 {
     text.iter().copied().map(escaped).collect(alloc)

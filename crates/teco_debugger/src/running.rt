@@ -4,13 +4,13 @@ ghost use Rattle.std.specs.Process.{exit_status};
 ghost use Rattle.teco_core.specs.declared.limits.TheConstants.{FILE_LIMIT};
 ghost use Rattle.teco_fs.specs.Seen.{KeepsDisk, host, disk_seen};
 ghost use Rattle.teco_debugger.specs.Program.{HasNoFiles, RetracesBy, ServesFiles, retrace_view};
-ghost use Rattle.teco_debugger.specs.Reading.{IsInputOf, IsTextOf, CannotRead};
+ghost use Rattle.teco_debugger.specs.Reading.{CannotRead, IsFromFile, IsInputOf, IsOfBytes, IsStringOf, LacksBytes, LacksFile};
 
 use crate::Walk;
 use crate::debugger::Debugger;
 use crate::ending::{Ending, NO_MEMORY, conclude};
-use crate::line::DebuggerLine;
-use crate::reading::{read_file, with_escapes};
+use crate::line::{DebuggerLine, Origin};
+use crate::reading::{Given, given_by, read_file};
 use crate::serving::serve;
 use std::alloc::Global;
 use std::io::BufRead;
@@ -20,22 +20,46 @@ use teco_core::NoMemory;
 use teco_fs::{Disk, refuse};
 use teco_io::Terminal;
 
+/// The command string of the source in a file.
+fn string_in_file<D: Disk>(alloc: Global, name: &str, disk: &mut D) -> Result<Given, Ending>
+    ensures string { IfOk result (λ given. IsFromFile (D.seen disk.old).files name.now given.text.items given.source) }
+    ensures lacks { let seen = disk_seen D.Disk D.Input.Source in
+        IfErr result (LacksFile (D.seen disk.old).files (seen disk.new) name.now) }
+    ensures keeps { let seen = disk_seen D.Disk D.Input.Source in
+        KeepsDisk (seen disk.old) (seen disk.new) }
+{
+    match read_file(alloc, name, disk) {
+        Err(fault) => Err(Ending::NoText(fault)),
+        Ok(source) => given_by(alloc, source.as_slice()),
+    }
+}
+
+/// The bytes of a file as a command string.
+fn string_of_bytes<D: Disk>(alloc: Global, name: &str, disk: &mut D) -> Result<Given, Ending>
+    ensures string { IfOk result (λ given. IsOfBytes (D.seen disk.old).files name.now given.text.items given.source) }
+    ensures lacks { let seen = disk_seen D.Disk D.Input.Source in
+        IfErr result (LacksBytes (D.seen disk.old).files (seen disk.new) name.now) }
+    ensures keeps { let seen = disk_seen D.Disk D.Input.Source in
+        KeepsDisk (seen disk.old) (seen disk.new) }
+{
+    match read_file(alloc, name, disk) {
+        Err(fault) => Err(Ending::NoText(fault)),
+        Ok(text) => Ok(Given { text, source: None }),
+    }
+}
+
 /// The command string of the line.
-fn text_of<D: Disk>(alloc: Global, line: &DebuggerLine, disk: &mut D) -> Result<Vec<u8>, Ending>
-    ensures text { IfOk result (λ text. IsTextOf (D.seen disk.old).files line.now text.items) }
+fn string_of<D: Disk>(alloc: Global, line: &DebuggerLine, disk: &mut D) -> Result<Given, Ending>
+    ensures string { IfOk result (λ given. IsStringOf (D.seen disk.old).files line.now.origin given.text.items given.source) }
     ensures lacks { let seen = disk_seen D.Disk D.Input.Source in
         IfErr result (CannotRead (D.seen disk.old).files (seen disk.new) line.now) }
     ensures keeps { let seen = disk_seen D.Disk D.Input.Source in
         KeepsDisk (seen disk.old) (seen disk.new) }
 {
-    match read_file(alloc, line.text.as_str(), disk) {
-        Err(fault) => Err(Ending::NoText(fault)),
-        Ok(bytes) => {
-            if line.dollar {
-                return Ok(with_escapes(alloc, bytes.as_slice())?);
-            }
-            Ok(bytes)
-        }
+    match &line.origin {
+        Origin::Word(strings) => given_by(alloc, strings.as_bytes()),
+        Origin::File(name) => string_in_file(alloc, name.as_str(), disk),
+        Origin::Bytes(name) => string_of_bytes(alloc, name.as_str(), disk),
     }
 }
 
@@ -73,9 +97,9 @@ fn retrace<C: BufRead, T: Terminal, D: Disk>(
     ensures keeps { let seen = disk_seen D.Disk D.Input.Source in
         KeepsDisk (seen disk.old) (seen disk.new) }
 {
-    let text = text_of(alloc, line, disk)?;
+    let given = string_of(alloc, line, disk)?;
     let input = input_of(alloc, line, disk)?;
-    let mut debugger = Debugger::new(Walk::new(input, text)?, line.limit);
+    let mut debugger = Debugger::new(Walk::new(input, given.text)?, line.limit, given.source);
     Ok(serve(alloc, &mut debugger, prompts, commands, term))
 }
 

@@ -18,23 +18,31 @@ use teco_store::Desk;
 const MOST_FAULTY: usize = 1;
 
 /// The innermost of the texts with these calls, as it is now: the string, or what a register holds.
-fn innermost<'a>(walk: &'a Walk, place: &Place) -> &'a [u8]
-    ensures { result.now ≡ innermost walk.now place.now }
+fn innermost<'a>(walk: &'a Walk, string: &'a [u8], place: &Place) -> &'a [u8]
+    ensures { result.now ≡ innermost walk.now string.now place.now }
 {
-    text_under(place, 0, walk.editor().registers(), walk.text())
+    text_under(place, 0, walk.editor().registers(), string)
 }
 
 /// Shows where the walk stands, and the token there.
-fn show_standing(out: &mut String, walk: &Walk, place: Option<&Place>) -> Result<(), NoMemory>
+fn show_standing(
+    out: &mut String,
+    walk: &Walk,
+    string: &[u8],
+    place: Option<&Place>,
+) -> Result<(), NoMemory>
     ensures { OnOk result (string_bytes out.new
-        ≡ string_bytes out.old ++ place_there walk.now (option_copied place.entry)) }
+        ≡ string_bytes out.old ++ place_there walk.now string.now (option_copied place.entry)) }
 {
     match place {
         None => out.push_str("the end"),
         Some(place) => {
-            show_place(out, place, walk.editor().registers(), walk.text())?;
+            show_place(out, place, walk.editor().registers(), string)?;
             out.push_str(", ")?;
-            spell(out, token(innermost(walk, place), place.at, MOST_FAULTY))
+            spell(
+                out,
+                token(innermost(walk, string, place), place.at, MOST_FAULTY),
+            )
         }
     }
 }
@@ -50,12 +58,12 @@ fn show_code_there(out: &mut String, code: Option<Code>) -> Result<(), NoMemory>
 }
 
 /// Shows the step, the place and the token, in a line.
-pub fn show_step(out: &mut String, walk: &Walk, seen: &Seen) -> Result<(), NoMemory>
-    ensures { OnOk result (string_bytes out.new ≡ string_bytes out.old ++ step_shown walk.now seen.now) }
+pub fn show_step(out: &mut String, walk: &Walk, string: &[u8], seen: &Seen) -> Result<(), NoMemory>
+    ensures { OnOk result (string_bytes out.new ≡ string_bytes out.old ++ step_shown walk.now string.now seen.now) }
 {
     let steps = walk.steps();
     write!(out, "step {steps}, ")?;
-    show_standing(out, walk, seen.place.as_ref())?;
+    show_standing(out, walk, string, seen.place.as_ref())?;
     show_code_there(out, seen.outcome.code)?;
     out.push_str("\n")
 }
@@ -175,42 +183,48 @@ fn show_turns_of(out: &mut String, place: &Place, k: usize) -> Result<(), NoMemo
 
 /// Shows an open call, of which `k` are later, and the turns left of the open iterations there.
 #[tactic(auto, unfolding(crate::specs::Showing::call_line))]
-fn show_call_line(out: &mut String, walk: &Walk, place: &Place, k: usize) -> Result<(), NoMemory>
-    ensures { OnOk result (string_bytes out.new ≡ string_bytes out.old ++ call_line walk.now place.now k) }
+fn show_call_line(
+    out: &mut String,
+    walk: &Walk,
+    string: &[u8],
+    place: &Place,
+    k: usize,
+) -> Result<(), NoMemory>
+    ensures { OnOk result (string_bytes out.new ≡ string_bytes out.old ++ call_line walk.now string.now place.now k) }
 {
-    show_call(out, place, k, walk.editor().registers(), walk.text())?;
+    show_call(out, place, k, walk.editor().registers(), string)?;
     show_turns_of(out, place, k)?;
     out.push_str("\n")
 }
 
 /// Shows the open calls, the latest first.
-fn show_calls(out: &mut String, walk: &Walk, place: &Place) -> Result<(), NoMemory>
+fn show_calls(out: &mut String, walk: &Walk, string: &[u8], place: &Place) -> Result<(), NoMemory>
     ensures { OnOk result (string_bytes out.new ≡ string_bytes out.old
-        ++ call_lines walk.now place.now (length place.now.calls.items)) }
+        ++ call_lines walk.now string.now place.now (length place.now.calls.items)) }
 {
     for k in 0..place.calls.len() {
-        show_call_line(out, walk, place, k)?;
+        show_call_line(out, walk, string, place, k)?;
     }
     Ok(())
 }
 
 /// Shows the line with its token marked, the open iterations and calls.
-fn show_lines(out: &mut String, walk: &Walk, place: &Place) -> Result<(), NoMemory>
+fn show_lines(out: &mut String, walk: &Walk, string: &[u8], place: &Place) -> Result<(), NoMemory>
     ensures { OnOk result (string_bytes out.new
-        ≡ string_bytes out.old ++ lines_there walk.now (Some place.now)) }
+        ≡ string_bytes out.old ++ lines_there walk.now string.now (Some place.now)) }
 {
-    show_line(out, innermost(walk, place), place.at)?;
+    show_line(out, innermost(walk, string, place), place.at)?;
     show_here(out, place.turns.as_slice())?;
-    show_calls(out, walk, place)
+    show_calls(out, walk, string, place)
 }
 
 /// Shows where a walk stands: the step, the line with its token marked, the open calls and iterations.
-pub fn show_where(out: &mut String, walk: &Walk, seen: &Seen) -> Result<(), NoMemory>
-    ensures { OnOk result (string_bytes out.new ≡ string_bytes out.old ++ where_shown walk.now seen.now) }
+pub fn show_where(out: &mut String, walk: &Walk, string: &[u8], seen: &Seen) -> Result<(), NoMemory>
+    ensures { OnOk result (string_bytes out.new ≡ string_bytes out.old ++ where_shown walk.now string.now seen.now) }
 {
-    show_step(out, walk, seen)?;
+    show_step(out, walk, string, seen)?;
     match &seen.place {
-        Some(place) => show_lines(out, walk, place),
+        Some(place) => show_lines(out, walk, string, place),
         None => Ok(()),
     }
 }

@@ -3,6 +3,7 @@ ghost use Rattle.std.specs.Prelude.{◌≡◌, ◌≤◌, IfNone, IfOk, IfSome, 
 ghost use Rattle.teco_debugger.specs.Moving.{HasNoStop, IsNextStop, is_at, is_stop, is_there};
 
 use crate::Walk;
+use crate::sources::{SourceText, look, shown_string};
 use teco_core::NoMemory;
 use teco_exec::Place;
 use teco_messages::{Spot, spot_of};
@@ -47,9 +48,15 @@ fn is_stop(text: &[u8], stop: Stop, n: u64, place: &Option<Place>) -> bool
 }
 
 /// The first step from `from` on, below a limit, that is at the place to stop at; none, too, where the way there is too long.
-pub fn next_stop(walk: &Walk, stop: Stop, from: u64, limit: u64) -> Result<Option<u64>, NoMemory>
-    ensures found { IfOk result (λ found. IfSome found (IsNextStop walk.now stop from)) }
-    ensures none { IfOk result (λ found. IfNone found (HasNoStop walk.now stop from limit)) }
+pub fn next_stop(
+    walk: &Walk,
+    source: &Option<SourceText>,
+    stop: Stop,
+    from: u64,
+    limit: u64,
+) -> Result<Option<u64>, NoMemory>
+    ensures found { IfOk result (λ found. IfSome found (IsNextStop source.now walk.now stop from)) }
+    ensures none { IfOk result (λ found. IfNone found (HasNoStop source.now walk.now stop from limit)) }
 {
     let mut work = MOST_WORK;
     for n in from..limit {
@@ -57,11 +64,11 @@ pub fn next_stop(walk: &Walk, stop: Stop, from: u64, limit: u64) -> Result<Optio
             return Ok(None);
         }
         work -= n;
-        let seen = walk.look(n)?;
+        let seen = look(walk, source, n)?;
         if seen.outcome.steps < n {
             return Ok(None);
         }
-        if is_stop(walk.text(), stop, n, &seen.place) {
+        if is_stop(shown_string(source, walk.text()), stop, n, &seen.place) {
             return Ok(Some(n));
         }
     }

@@ -1,4 +1,4 @@
-use Rattle.std.proofs.Common.{◌≡◌, String, Global, Option, Result, Ok, Err, refl, inl, inr, subst}
+use Rattle.std.proofs.Common.{◌≡◌, ◌<◌, String, Global, Option, Result, Ok, Err, refl, inl, inr, subst}
 use Rattle.std.specs.Prelude.{IfOk, OnErr, codes}
 use Rattle.std.specs.Result.{result_ok}
 use Rattle.std.specs.String.{string_bytes}
@@ -12,7 +12,7 @@ use Rattle.teco_debugger.proofs.ending.conclude.Goals as goal
 
 -- the line is told, or that there was no memory for it
 told : (line : DebuggerLine) (ending : Ending) (old new : Screen) (text : Result (String Global) AllocError) (left : Option (String Global)) → left ≡ result_ok text
-    → IfOk text (λ text. string_bytes text ≡ ending_line line ending) → OnErr text (status_of_ending ending ≡ 1)
+    → IfOk text (λ text. string_bytes text ≡ ending_line line ending) → OnErr text (0 < status_of_ending ending)
     → TellsText (Shows old new) (told_line (codes "no memory")) left → TellsEnding line ending old new (status_of_ending ending)
 told line ending old new (Ok text) left is same failed tells = record { status_is = refl; told = inl (subst (Tells old new) same (subst (TellsText (Shows old new) (told_line (codes "no memory"))) is tells)) }
 told line ending old new (Err lacking) left is same failed tells = record { status_is = refl; told = inr (failed, subst (TellsText (Shows old new) (told_line (codes "no memory"))) is tells) }

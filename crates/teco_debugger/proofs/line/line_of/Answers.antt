@@ -13,7 +13,10 @@ returns-in-Ok-clause-line c =
     c.line_in.result c.line_in.ensures.line
 
 pub returns-in-Ok-clause-refused : goal.returns-in-Ok-clause-refused
-returns-in-Ok-clause-refused c = refused_is (map (λ x. string_bytes x) c.args.words.now) c.line_in.result c.line_in.ensures.refused
+returns-in-Ok-clause-refused c =
+    let is = app_is c.program.result.now c.arguments.result.now (codes "teco-debug") debug_rules c.program.ensures c.arguments.ensures in
+    refused_is (app_by c.program.result.now c.arguments.result.now) is c.in-Ok.matches (map (λ x. string_bytes x) c.args.words.now) c.in-Ok.ensures.matches c.in-Ok.ensures.taken
+    c.line_in.result c.line_in.ensures.refused
 
 pub returns-in-Err-clause-refused : goal.returns-in-Err-clause-refused
 returns-in-Err-clause-refused c =
