@@ -18,21 +18,21 @@ shows_help (Ok done) d old new rows all none e = (refl, (rows, all, e ∙ ap (λ
 shows_help (Err fault) d old new rows all none e = tt
 
 -- where it arrives from a debugger with other moves
-pub arrives_from : {n : ℕ} {new : Debugger} {shown : List ℕ} (old mid : Debugger) → mid.walk ≡ old.walk → mid.limit ≡ old.limit → mid.stop ≡ old.stop → mid.source ≡ old.source
+pub arrives_from : {n : ℕ} {new : Debugger} {shown : List ℕ} (old mid : Debugger) → mid.walk ≡ old.walk → mid.limit ≡ old.limit → mid.stop ≡ old.stop → mid.sources ≡ old.sources
     → Arrives n mid new shown → Arrives n old new shown
-arrives_from {n} {new} {shown} old mid walk limit stop source a = record {
+arrives_from {n} {new} {shown} old mid walk limit stop sources a = record {
   goes = subst (λ w. Goes n w new.walk) walk a.goes;
-  seen = a.seen;
-  seen_is = a.seen_is;
+  there = a.there;
+  there_is = a.there_is;
   shown_is = a.shown_is;
-  source = a.source ∙ source;
+  sources = a.sources ∙ sources;
   limit = a.limit ∙ limit;
   stop = a.stop ∙ stop;
 }
 
 -- where it arrives once a move was kept
-pub moves_from : {A E : Type 0} (r : Result A E) (n : ℕ) (old mid new : Debugger) (shown : List ℕ) → mid.walk ≡ old.walk → mid.limit ≡ old.limit → mid.stop ≡ old.stop → mid.source ≡ old.source
+pub moves_from : {A E : Type 0} (r : Result A E) (n : ℕ) (old mid new : Debugger) (shown : List ℕ) → mid.walk ≡ old.walk → mid.limit ≡ old.limit → mid.stop ≡ old.stop → mid.sources ≡ old.sources
     → mid.moves.items ≡ old.moves.items ++ old.walk.steps ∷ [] → new.moves ≡ mid.moves → OnOk r (Arrives n mid new shown) → OnOk r (MovesTo n old new shown)
-moves_from (Ok done) n old mid new shown walk limit stop source kept same a =
-    record { arrives = arrives_from old mid walk limit stop source a; kept = ap (λ m. m.items) same ∙ kept }
-moves_from (Err fault) n old mid new shown walk limit stop source kept same a = tt
+moves_from (Ok done) n old mid new shown walk limit stop sources kept same a =
+    record { arrives = arrives_from old mid walk limit stop sources a; kept = ap (λ m. m.items) same ∙ kept }
+moves_from (Err fault) n old mid new shown walk limit stop sources kept same a = tt

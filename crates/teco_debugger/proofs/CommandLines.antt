@@ -1,16 +1,17 @@
 -- What a parse by the program's command gives.
-use Rattle.std.proofs.Common.{◌≡◌, ◌∙◌, ℕ, true, refl, sym, ap, subst, min, inl, inr, codes, List, [], Option, Some, None, Result, Ok, Err}
+use Rattle.std.proofs.Common.{◌≡◌, ◌∙◌, ℕ, true, refl, sym, ap, subst, map, min, inl, inr, codes, List, [], Option, Some, None, Result, Ok, Err}
 use Rattle.std.specs.Prelude.{unwrap_or, option_map, IfErr, IfOk}
 use Rattle.std.specs.String.{string_bytes}
 use Rattle.std.specs.Str.Parse.{ParsesUnsigned}
 use Rattle.clap.specs.Words.{App, HasMatchesOf, ReadsOne, Row, Text, fault_of, first_of, found_of, one_of, is_simple, is_simple_and_free, matches_of, rows_of}
 use Rattle.clap.specs.declared.parser.matches.ArgMatches.{ArgMatches}
 use Rattle.teco_cli.specs.Parsing.{IsUnparsed}
+use Rattle.teco_cli.specs.Options.{option_texts}
 use Rattle.teco_cli.specs.declared.fault.LineFault.{LineFault}
 use Rattle.teco_cli.specs.declared.fault.LineFault.TheVariants.{NoMemory, Refused}
-use Rattle.teco_debugger.specs.CommandLine.{IsLimit, IsMisgiven, IsOrigin, IsReadFault, LineHas, WordsSay, WordsSayNone, debug_app}
+use Rattle.teco_debugger.specs.CommandLine.{IsLimit, IsMisgiven, IsOrigin, LacksLine, LineHas, WordsSay, WordsSayNone, debug_app}
 use Rattle.teco_debugger.specs.declared.line.DebuggerLine.{DebuggerLine}
-use Rattle.teco_debugger.specs.declared.line.Texts.{Texts}
+use Rattle.teco_debugger.specs.declared.arguments.Texts.{Texts}
 
 -- the command is one whose matches the parser's contract says, and no argument has a rule on another
 debug_is_simple : is_simple debug_app ≡ true
@@ -37,10 +38,10 @@ no_line words (Refused refusal) h = inl h
 -- ---- what the texts of a parse give
 
 pub has_line : (rows : List Row) (r : Result DebuggerLine LineFault) (t : Texts) (limit : ℕ) → IsLimit (one_of (codes "limit") rows) limit
-    → first_of (codes "execute") rows ≡ option_map string_bytes t.word → first_of (codes "file") rows ≡ option_map string_bytes t.file
+    → first_of (codes "execute") rows ≡ option_map string_bytes t.word → option_texts (codes "file") rows ≡ map string_bytes t.files.items
     → first_of (codes "bytes") rows ≡ option_map string_bytes t.bytes → first_of (codes "input") rows ≡ option_map string_bytes t.input
     → IfOk r (λ line. line.limit ≡ limit)
-    → IfOk r (λ line. IsOrigin (option_map string_bytes t.word) (option_map string_bytes t.file) (option_map string_bytes t.bytes) line.origin)
+    → IfOk r (λ line. IsOrigin (option_map string_bytes t.word) (map string_bytes t.files.items) (option_map string_bytes t.bytes) line.origin)
     → IfOk r (λ line. line.input ≡ t.input) → IfOk r (LineHas rows)
 has_line rows (Err fault) t limit is word file bytes input l o i = tt
 has_line rows (Ok line) t limit is word file bytes input l o i = record {
@@ -50,14 +51,14 @@ has_line rows (Ok line) t limit is word file bytes input l o i = record {
 }
 
 misgiven_is : (rows : List Row) (fault : LineFault)
-    → IsMisgiven (first_of (codes "execute") rows) (first_of (codes "file") rows) (first_of (codes "bytes") rows) fault → IsReadFault rows fault
+    → IsMisgiven (first_of (codes "execute") rows) (option_texts (codes "file") rows) (first_of (codes "bytes") rows) fault → LacksLine rows fault
 misgiven_is rows NoMemory h = tt
 misgiven_is rows (Refused refusal) h = h
 
 pub read_fault : (rows : List Row) (r : Result DebuggerLine LineFault) (t : Texts)
-    → first_of (codes "execute") rows ≡ option_map string_bytes t.word → first_of (codes "file") rows ≡ option_map string_bytes t.file
+    → first_of (codes "execute") rows ≡ option_map string_bytes t.word → option_texts (codes "file") rows ≡ map string_bytes t.files.items
     → first_of (codes "bytes") rows ≡ option_map string_bytes t.bytes
-    → IfErr r (IsMisgiven (option_map string_bytes t.word) (option_map string_bytes t.file) (option_map string_bytes t.bytes)) → IfErr r (IsReadFault rows)
+    → IfErr r (IsMisgiven (option_map string_bytes t.word) (map string_bytes t.files.items) (option_map string_bytes t.bytes)) → IfErr r (LacksLine rows)
 read_fault rows (Ok line) t word file bytes h = tt
 read_fault rows (Err fault) t word file bytes h = misgiven_is rows fault (rw (word, file, bytes) h)
 
@@ -81,7 +82,7 @@ module _ (app : App) (is : app ≡ debug_app) where
     line_is (Err fault) has = tt
 
     -- they give no line
-    pub refused_is : (r : Result DebuggerLine LineFault) → IfErr r (IsReadFault (rows_of (found_of m))) → IfErr r (WordsSayNone words)
+    pub refused_is : (r : Result DebuggerLine LineFault) → IfErr r (LacksLine (rows_of (found_of m))) → IfErr r (WordsSayNone words)
     refused_is (Ok line) h = tt
     refused_is (Err NoMemory) h = tt
     refused_is (Err (Refused refusal)) h = inr (words_taken, rw (← rows_are) h)

@@ -1,5 +1,5 @@
 -- Steps on the way that are looked at.
-use Rattle.std.proofs.Common.{◌≡◌, ℕ, ◌+◌, ◌-◌, ◌<◌, ◌≤◌, Option, false, sym, subst, arith, inl, inr, add-one}
+use Rattle.std.proofs.Common.{◌≡◌, ℕ, ◌+◌, ◌-◌, ◌<◌, ◌≤◌, List, false, sym, subst, arith, inl, inr, add-one}
 use Rattle.std.proofs.lemmas.Bool.{cases_lt}
 use Rattle.teco_debugger.specs.Walk.{KeptWalk, meant}
 use Rattle.teco_debugger.specs.Moving.{HasNoStop, PassesBetween, StopsOr, work_below}
@@ -7,29 +7,29 @@ use Rattle.teco_debugger.specs.declared.sources.SourceText.{SourceText}
 use Rattle.teco_debugger.specs.declared.stops.Stop.{Stop}
 use Rattle.teco_debugger.specs.declared.stops.TheConstants.{MOST_WORK}
 
-module _ (source : Option SourceText) (walk : KeptWalk) (stop : Stop) (from : ℕ) where
+module _ (sources : List SourceText) (walk : KeptWalk) (stop : Stop) (from : ℕ) where
   -- none is passed yet
-  pub passes_none : PassesBetween source walk stop from from
+  pub passes_none : PassesBetween sources walk stop from from
   passes_none n above below = absurd (omega (arith, above, below))
 
-  pub passes_more : (n : ℕ) → PassesBetween source walk stop from n → StopsOr source walk stop n false → PassesBetween source walk stop from (n + 1)
+  pub passes_more : (n : ℕ) → PassesBetween sources walk stop from n → StopsOr sources walk stop n false → PassesBetween sources walk stop from (n + 1)
   passes_more n passed here k above below = elim (cases_lt k n) [
     | inl less ↦ passed k above less
     | inr more ↦
         let same : k ≡ n = omega (arith, below, more) in
-        subst (λ m. StopsOr source walk stop m false) (sym same) here
+        subst (λ m. StopsOr sources walk stop m false) (sym same) here
   ]
 
   -- the work that is left no longer suffices
-  pub is_too_far : (limit n work : ℕ) → work + work_below n ≡ MOST_WORK + work_below from → work < n → PassesBetween source walk stop from n
-      → HasNoStop source walk stop from limit
+  pub is_too_far : (limit n work : ℕ) → work + work_below n ≡ MOST_WORK + work_below from → work < n → PassesBetween sources walk stop from n
+      → HasNoStop sources walk stop from limit
   unfolding work_below
   is_too_far limit n work is less passed = record { to = n; passed = passed; ends = inr (inr (omega (arith, is, less))) }
 
-  pub ends_before : (limit n : ℕ) → (meant walk.input walk.text n).steps < n → PassesBetween source walk stop from n → HasNoStop source walk stop from limit
+  pub ends_before : (limit n : ℕ) → (meant walk.input walk.text n).steps < n → PassesBetween sources walk stop from n → HasNoStop sources walk stop from limit
   ends_before limit n less passed = record { to = n; passed = passed; ends = inr (inl less) }
 
-  pub is_at_limit : (limit n : ℕ) → limit ≤ n → PassesBetween source walk stop from n → HasNoStop source walk stop from limit
+  pub is_at_limit : (limit n : ℕ) → limit ≤ n → PassesBetween sources walk stop from n → HasNoStop sources walk stop from limit
   is_at_limit limit n over passed = record { to = n; passed = passed; ends = inl over }
 
 pub work_more : (n work left sum : ℕ) → n ≤ work → work + work_below n ≡ sum → left ≡ work - n → left + work_below (n + 1) ≡ sum

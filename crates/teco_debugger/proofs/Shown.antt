@@ -1,21 +1,38 @@
 -- What a run shows, with its place as that is shown.
-use Rattle.std.proofs.Common.{◌≡◌, ◌∙◌, ◌+◌, ◌<◌, ℕ, zero, suc, List, [], ◌∷◌, length, get_or, Option, Some, None, Bool, true, false, if◌then◌else◌, ap, refl, arith}
+use Rattle.std.proofs.Common.{◌≡◌, ◌∙◌, ◌+◌, ◌<◌, ℕ, zero, suc, List, [], ◌∷◌, length, get_or, Option, Some, None, Bool, true, false, if◌then◌else◌, nat_lt, ap, sym, refl, arith}
 use Rattle.std.specs.Prelude.{◌==◌}
-use Rattle.std.proofs.lemmas.Bool.{true≢false, eqb-true}
-use Rattle.std.specs.Prelude.{slice_set}
+use Rattle.std.proofs.lemmas.Bool.{true≢false, eqb-true, ltb-false, ltb-true}
+use Rattle.std.proofs.lemmas.Option.{slice_get_past, slice_get_read}
+use Rattle.std.specs.Prelude.{slice_get, slice_set}
 use Rattle.teco_exec.specs.declared.place.Call.{Call}
 use Rattle.teco_debugger.specs.Walk.{KeptWalk, meant}
-use Rattle.teco_debugger.specs.Sources.{IsShownAt, outermost_shown, shown_place}
+use Rattle.teco_debugger.specs.Sources.{IsShownAt, IsShownSeen, outermost_shown, shown_place}
 use Rattle.teco_debugger.specs.declared.sources.SourceText.{SourceText}
+use Rattle.teco_debugger.specs.declared.sources.Shown.{Shown}
 use Rattle.teco_debugger.specs.declared.walk.Seen.{Seen}
 
-pub shown_typed : (source : Option SourceText) (walk : KeptWalk) (n : ℕ) (there : Seen) → IsShownAt source walk n there → there.typed.items ≡ (meant walk.input walk.text n).typed
-shown_typed None walk n there is = ap (λ s. s.typed.items) is.2 ∙ is.1.typed
-shown_typed (Some source) walk n there is = ap (λ t. t.items) is.2.1 ∙ is.1.typed
+same_typed : (source : Option SourceText) (old new : Seen) → IsShownSeen source old new → new.typed.items ≡ old.typed.items
+same_typed None old new is = ap (λ s. s.typed.items) is
+same_typed (Some source) old new is = ap (λ t. t.items) is.1
 
-pub shown_steps : (source : Option SourceText) (walk : KeptWalk) (n : ℕ) (there : Seen) → IsShownAt source walk n there → there.outcome.steps ≡ (meant walk.input walk.text n).steps
-shown_steps None walk n there is = ap (λ s. s.outcome.steps) is.2 ∙ is.1.steps
-shown_steps (Some source) walk n there is = ap (λ o. o.steps) is.2.0 ∙ is.1.steps
+same_steps : (source : Option SourceText) (old new : Seen) → IsShownSeen source old new → new.outcome.steps ≡ old.outcome.steps
+same_steps None old new is = ap (λ s. s.outcome.steps) is
+same_steps (Some source) old new is = ap (λ o. o.steps) is.0
+
+pub shown_typed : (sources : List SourceText) (walk : KeptWalk) (n : ℕ) (there : Shown) → IsShownAt sources walk n there → there.seen.typed.items ≡ (meant walk.input walk.text n).typed
+shown_typed sources walk n there is = same_typed (slice_get sources there.number) is.0 there.seen is.3 ∙ is.1.typed
+
+pub shown_steps : (sources : List SourceText) (walk : KeptWalk) (n : ℕ) (there : Shown) → IsShownAt sources walk n there → there.seen.outcome.steps ≡ (meant walk.input walk.text n).steps
+shown_steps sources walk n there is = same_steps (slice_get sources there.number) is.0 there.seen is.3 ∙ is.1.steps
+
+-- the source of a number, as it is read
+pub source_there : (sources : List SourceText) (source : SourceText) (number : ℕ) → true ≡ nat_lt number (length sources) → source ≡ get_or sources number source
+    → slice_get sources number ≡ Some source
+source_there sources source number within is = slice_get_read sources (length sources) number source refl (ltb-true number (length sources) (sym within)) is
+
+-- there is none
+pub no_source : (sources : List SourceText) (number : ℕ) → false ≡ nat_lt number (length sources) → slice_get sources number ≡ None
+no_source sources number past = slice_get_past sources number (ltb-false number (length sources) (sym past))
 
 -- the last of some calls, with its place as that is shown
 pub last_shown : (source : SourceText) (calls : List Call) (n : ℕ) (call read : Call) (at : ℕ) → length calls ≡ n + 1 → call ≡ get_or calls n call → read ≡ get_or calls n read

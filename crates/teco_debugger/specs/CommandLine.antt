@@ -1,24 +1,25 @@
 -- What the command line says: teco-debug [OPTIONS] [INPUT]
-use Rattle.std.specs.Prelude.{◌≡◌, ◌⊎◌, ⊤, ℕ, ◌≤◌, List, [], ◌∷◌, codes, count_by, is_some, min, Option, Some, None, option_map, false}
+use Rattle.std.specs.Prelude.{◌≡◌, ◌⊎◌, ⊤, ℕ, List, [], ◌∷◌, codes, is_some, map, min, Option, Some, None, option_map, false, true}
 use Rattle.std.specs.String.{string_bytes}
 use Rattle.clap.specs.Words.{App, IsAmong, Row, Rule, Text, fault_of, first_of, matches_of, one_of, takes}
 use Rattle.clap.specs.declared.error.kind.ErrorKind.{ErrorKind}
 use Rattle.clap.specs.declared.error.kind.ErrorKind.TheVariants as kind
 use Rattle.teco_cli.specs.Values.{IsNumber, number_of}
+use Rattle.teco_cli.specs.Options.{has_sources, option_texts}
 use Rattle.teco_cli.specs.Parsing.{program_app}
-use Rattle.teco_cli.specs.OptionTable.{operand, with_number, with_rules, with_text}
+use Rattle.teco_cli.specs.OptionTable.{operand, with_number, with_rules, with_text, with_texts}
 use Rattle.teco_cli.specs.Refusals.{IsFaulty, IsToldAs}
 use Rattle.teco_cli.specs.declared.fault.LineFault.{LineFault}
 use Rattle.teco_cli.specs.declared.fault.LineFault.TheVariants as line_fault
 use Rattle.teco_cli.specs.declared.options.Takes.TheVariants.{MaybeOperand}
 use Rattle.teco_debugger.specs.declared.line.DebuggerLine.{DebuggerLine}
 use Rattle.teco_debugger.specs.declared.line.Origin.{Origin}
-use Rattle.teco_debugger.specs.declared.line.Origin.TheVariants.{Word, File, Bytes}
+use Rattle.teco_debugger.specs.declared.line.Origin.TheVariants.{Sources, Bytes}
 
 -- the options, and the input
 abbrev pub debug_rules : List Rule
 debug_rules = with_text (codes "execute") (Some 101)
-    ∷ with_text (codes "file") (Some 102)
+    ∷ with_texts (codes "file") (Some 102)
     ∷ with_text (codes "bytes") (Some 98)
     ∷ with_number (codes "limit") None 0 1000000000000
     ∷ operand MaybeOperand (codes "input")
@@ -35,20 +36,17 @@ abbrev pub IsLimit : Option Text → ℕ → Type 0
 IsLimit (Some text) limit = IsNumber text → limit ≡ min (number_of text) 1000000000000
 IsLimit None limit = limit ≡ 1000000
 
--- Where the command string comes from, by the texts of --execute, --file and --bytes: from the one that is given.
-abbrev pub IsOrigin : Option Text → Option Text → Option Text → Origin → Type 0
-IsOrigin word file bytes (Word strings) = (word ≡ Some (string_bytes strings)) × (file ≡ None) × (bytes ≡ None)
-IsOrigin word file bytes (File name) = (word ≡ None) × (file ≡ Some (string_bytes name)) × (bytes ≡ None)
-IsOrigin word file bytes (Bytes name) = (word ≡ None) × (file ≡ None) × (bytes ≡ Some (string_bytes name))
-
--- how many of them are given
-abbrev pub count_given : Option Text → Option Text → Option Text → ℕ
-count_given word file bytes = count_by (λ given. given) (is_some word ∷ is_some file ∷ is_some bytes ∷ [])
+-- Where the command string comes from, by the texts of --execute, --file and --bytes: from the sources of the first two, or
+-- from the bytes of a file.
+abbrev pub IsOrigin : Option Text → List Text → Option Text → Origin → Type 0
+IsOrigin word files bytes (Sources names text) = (has_sources word files ≡ true)
+    × (files ≡ map string_bytes names.items) × (word ≡ option_map string_bytes text) × (bytes ≡ None)
+IsOrigin word files bytes (Bytes name) = (has_sources word files ≡ false) × (bytes ≡ Some (string_bytes name))
 
 -- The line has what a parse gives for each argument.
 pub record LineHas (rows : List Row) (line : DebuggerLine) : Type 0 where
   pub limit : IsLimit (one_of (codes "limit") rows) line.limit
-  pub origin : IsOrigin (first_of (codes "execute") rows) (first_of (codes "file") rows) (first_of (codes "bytes") rows) line.origin
+  pub origin : IsOrigin (first_of (codes "execute") rows) (option_texts (codes "file") rows) (first_of (codes "bytes") rows) line.origin
   pub input : first_of (codes "input") rows ≡ option_map string_bytes line.input
 
 -- The line is what these words say, the program's name first: the parser takes them, and the line has what their
@@ -64,27 +62,28 @@ IsDebugError words error = (error ≡ kind.OutOfMemory)
     ⊎ ((takes debug_app words ≡ false) × IsAmong error (fault_of debug_app words))
 
 -- A line is faulty, and its text says why; or memory was refused to tell it.
-abbrev pub IsFaultSaid : Text → LineFault → Type 0
-IsFaultSaid why line_fault.NoMemory = ⊤
-IsFaultSaid why (line_fault.Refused refusal) = IsFaulty why (codes "teco-debug [OPTIONS] [INPUT]") refusal
+abbrev pub IsToldFaulty : Text → LineFault → Type 0
+IsToldFaulty why line_fault.NoMemory = ⊤
+IsToldFaulty why (line_fault.Refused refusal) = IsFaulty why (codes "teco-debug [OPTIONS] [INPUT]") refusal
 
--- Such a line gives no command string, or more than one.
-abbrev pub IsMisgiven : Option Text → Option Text → Option Text → LineFault → Type 0
-IsMisgiven word file bytes fault =
-    ((count_given word file bytes ≡ 0) × IsFaultSaid (codes "one of '--execute <STRINGS>', '--file <FILE>' and '--bytes <FILE>' is needed") fault)
-    ⊎ ((2 ≤ count_given word file bytes)
-    × IsFaultSaid (codes "only one of '--execute <STRINGS>', '--file <FILE>' and '--bytes <FILE>' can be used") fault)
+-- Such a line gives no command string, or gives it as sources and as bytes.
+abbrev pub IsMisgiven : Option Text → List Text → Option Text → LineFault → Type 0
+IsMisgiven word files bytes fault =
+    ((has_sources word files ≡ false) × (bytes ≡ None)
+    × IsToldFaulty (codes "one of '--execute <STRINGS>', '--file <FILE>' and '--bytes <FILE>' is needed") fault)
+    ⊎ ((has_sources word files ≡ true) × (is_some bytes ≡ true)
+    × IsToldFaulty (codes "the argument '--bytes <FILE>' cannot be used with '--file <FILE>' or '--execute <STRINGS>'") fault)
 
 -- The parse gives no line: memory was refused, or it is misgiven.
-abbrev pub IsReadFault : List Row → LineFault → Type 0
-IsReadFault rows line_fault.NoMemory = ⊤
-IsReadFault rows (line_fault.Refused refusal) =
-    IsMisgiven (first_of (codes "execute") rows) (first_of (codes "file") rows) (first_of (codes "bytes") rows) (line_fault.Refused refusal)
+abbrev pub LacksLine : List Row → LineFault → Type 0
+LacksLine rows line_fault.NoMemory = ⊤
+LacksLine rows (line_fault.Refused refusal) =
+    IsMisgiven (first_of (codes "execute") rows) (option_texts (codes "file") rows) (first_of (codes "bytes") rows) (line_fault.Refused refusal)
 
 -- Why the words gave no line: memory was refused; or the parser refuses them for such an error, and that is told as what it is; or
--- the parser takes them, and they give no command string, or more than one.
+-- the parser takes them, and they are misgiven.
 abbrev pub WordsSayNone : List Text → LineFault → Type 0
 WordsSayNone words line_fault.NoMemory = ⊤
 WordsSayNone words (line_fault.Refused refusal) =
     ((error : ErrorKind) × IsDebugError words error × IsToldAs refusal.refused_as error)
-    ⊎ ((fault_of debug_app words ≡ []) × IsReadFault (matches_of debug_app words) (line_fault.Refused refusal))
+    ⊎ ((fault_of debug_app words ≡ []) × LacksLine (matches_of debug_app words) (line_fault.Refused refusal))

@@ -1,39 +1,38 @@
 -- The commands: how each is spelled, what a line asks, what each does, and what is shown of it.
-use Rattle.std.specs.Prelude.{◌≡◌, ◌⊎◌, ℕ, ◌+◌, ◌-◌, min, nat_eq, nat_le, nat_lt, Bool, true, false, ◌||◌, ◌==◌, not, if◌then◌else◌, List, [], ◌∷◌, ◌++◌, length, map, take, drop, slice_get, codes, Option, Some, None, Result, Ok, Err}
+use Rattle.std.specs.Prelude.{◌≡◌, ◌⊎◌, ℕ, suc, ◌+◌, ◌-◌, min, nat_eq, nat_le, Bool, true, false, ◌||◌, ◌==◌, not, if◌then◌else◌, List, [], ◌∷◌, ◌++◌, length, map, take, drop, slice_get, codes, Option, Some, None, Result, Ok, Err}
 use Rattle.std.specs.List.{prefix_len, suffix_len}
 use Rattle.std.specs.Fmt.{decimal}
+use Rattle.std.specs.String.{string_bytes}
 use Prim.Native.Char.{code}
 use lib.Pointwise.{pointwise}
 use Rattle.teco_core.specs.Ascii.{upper}
 use Rattle.teco_core.specs.Register.{register_of}
-use Rattle.teco_messages.specs.declared.spot.Spot.{Spot}
 use Rattle.teco_messages.specs.Spelling.{spelled}
 use Rattle.teco_debugger.specs.Number.{number_in}
 use Rattle.teco_debugger.specs.Finding.{last_change}
 use Rattle.teco_debugger.specs.Walk.{KeptWalk, meant, state_there}
 use Rattle.teco_debugger.specs.Help.{help_shown}
 use Rattle.teco_debugger.specs.Listing.{lines_there_shown, registers_shown, state_shown, whole_register}
-use Rattle.teco_debugger.specs.Moving.{Arrives, HasNoStop, IsNextStop, MovesTo, SameRun}
-use Rattle.teco_debugger.specs.Showing.{step_shown, where_shown}
-use Rattle.teco_debugger.specs.Sources.{IsShownAt, shown_string}
+use Rattle.teco_debugger.specs.Moving.{Arrives, HasNoStop, IsNextStop, MovesTo, SameRun, line_stop}
+use Rattle.teco_debugger.specs.Showing.{step_at, where_at}
+use Rattle.teco_debugger.specs.Sources.{IsShownAt}
 use Rattle.teco_debugger.specs.Watching.{IsNearestOther}
 use Rattle.teco_debugger.specs.declared.sources.SourceText.{SourceText}
 use Rattle.teco_debugger.specs.declared.command.DebuggerCommand.{DebuggerCommand}
 use Rattle.teco_debugger.specs.declared.command.DebuggerCommand.TheVariants as command
 use Rattle.teco_debugger.specs.declared.command.CommandFault.{CommandFault}
-use Rattle.teco_debugger.specs.declared.command.CommandFault.TheVariants.{NoCommand, NoNumber, NoRegister, NoPlace, NoWatch, TooMuch}
+use Rattle.teco_debugger.specs.declared.command.CommandFault.TheVariants.{NoCommand, NoNumber, NoRegister, NoPlace, NoSource, NoWatch, TooMuch}
 use Rattle.teco_debugger.specs.declared.part.Part.{Part}
 use Rattle.teco_debugger.specs.declared.part.Part.TheVariants as part
 use Rattle.teco_debugger.specs.declared.stops.Stop.{Stop}
-use Rattle.teco_debugger.specs.declared.stops.Stop.TheVariants as stop
 use Rattle.teco_debugger.specs.declared.verb.Takes.{Takes}
-use Rattle.teco_debugger.specs.declared.verb.Takes.TheVariants.{Nothing, Number, NumberOr, Register, Part as ThePart, Spot as TheSpot, Watch as TheWatch}
+use Rattle.teco_debugger.specs.declared.verb.Takes.TheVariants.{Nothing, Number, NumberOr, Register, Part as ThePart, Stop as TheStop, Watch as TheWatch}
 use Rattle.teco_debugger.specs.declared.verb.Counted.{Counted}
 use Rattle.teco_debugger.specs.declared.verb.Counted.TheVariants as counted
 use Rattle.teco_debugger.specs.declared.verb.Plain.{Plain}
 use Rattle.teco_debugger.specs.declared.verb.Plain.TheVariants as plain
 use Rattle.teco_debugger.specs.declared.verb.VerbRow.{VerbRow}
-use Rattle.teco_debugger.specs.declared.walk.Seen.{Seen}
+use Rattle.teco_debugger.specs.declared.sources.Shown.{Shown}
 use Rattle.teco_debugger.specs.declared.watching.Watch.{Watch}
 use Rattle.teco_debugger.specs.declared.watching.Watch.TheVariants as watch
 use Rattle.teco_debugger.specs.declared.watching.Way.{Way}
@@ -69,7 +68,7 @@ verbs = named (codes "next") (codes "n") (NumberOr counted.Next 1)
     ∷ named (codes "registers") (codes "i") (Nothing plain.Registers)
     ∷ named (codes "state") (codes "a") (Nothing plain.State)
     ∷ named (codes "find") (codes "f") ThePart
-    ∷ named (codes "break") (codes "k") TheSpot
+    ∷ named (codes "break") (codes "k") TheStop
     ∷ named (codes "continue") (codes "c") (Nothing plain.Continue)
     ∷ named (codes "typed") (codes "y") (Nothing plain.Typed)
     ∷ named (codes "undo") (codes "u") (NumberOr counted.Undo 1)
@@ -132,20 +131,43 @@ part_in bytes = if pointwise nat_eq bytes (codes "text") then Ok part.Buffer els
 abbrev pub is_colon : ℕ → Bool
 is_colon b = b == code ":"
 
-abbrev pub colon_in : List ℕ → ℕ
-colon_in bytes = prefix_len (λ b. not (is_colon b)) bytes
+-- where the last of the pieces begins that colons part, and what is before its colon
+abbrev pub last_piece : List ℕ → ℕ
+last_piece bytes = length bytes - suffix_len (λ b. not (is_colon b)) bytes
 
-abbrev pub spot_from : Result ℕ CommandFault → Result ℕ CommandFault → Result Spot CommandFault
-spot_from (Ok line) (Ok column) = Ok (record { line = line; column = column })
-spot_from (Ok line) (Err fault) = Err NoPlace
-spot_from (Err fault) column = Err NoPlace
+abbrev pub before_piece : List ℕ → List ℕ
+before_piece bytes = take (last_piece bytes - 1) bytes
 
--- two numbers with a colon between them
-abbrev pub spot_in : List ℕ → Result Spot CommandFault
-spot_in bytes =
-    if nat_lt (colon_in bytes) (length bytes)
-    then spot_from (number_in (take (colon_in bytes) bytes)) (number_in (drop (colon_in bytes + 1) bytes))
-    else Err NoPlace
+-- the number of the first source of this name, if the first of all has the number n
+abbrev pub source_named : List SourceText → List ℕ → ℕ → Option ℕ
+source_named [] name n = None
+source_named (source ∷ sources) name n =
+    if pointwise nat_eq name (string_bytes source.name) then Some n else source_named sources name (suc n)
+
+-- a place in the source of this number, if there is one
+abbrev pub stop_of : Option ℕ → ℕ → Option ℕ → Result Stop CommandFault
+stop_of (Some number) line column = Ok (record { source = Some number; line = line; column = column })
+stop_of None line column = Err NoSource
+
+-- FILE:LINE stands before a colon and a number, which is then a column; or FILE does, and the number is a line
+abbrev pub stop_in_file : List SourceText → List ℕ → ℕ → Result ℕ CommandFault → Result Stop CommandFault
+stop_in_file sources front last (Ok line) = stop_of (source_named sources (before_piece front) 0) line (Some last)
+stop_in_file sources front last (Err fault) = stop_of (source_named sources front 0) last None
+
+-- LINE stands before them; or something with a file
+abbrev pub stop_behind : List SourceText → List ℕ → ℕ → Result ℕ CommandFault → Result Stop CommandFault
+stop_behind sources front last (Ok line) = Ok (record { source = None; line = line; column = Some last })
+stop_behind sources front last (Err fault) = stop_in_file sources front last (number_in (drop (last_piece front) front))
+
+abbrev pub stop_by : List SourceText → List ℕ → Result ℕ CommandFault → Result Stop CommandFault
+stop_by sources bytes (Err fault) = Err NoPlace
+stop_by sources bytes (Ok last) =
+    if last_piece bytes == 0 then Ok (line_stop last)
+    else stop_behind sources (before_piece bytes) last (number_in (before_piece bytes))
+
+-- a place to stop at: LINE, LINE:COLUMN, FILE:LINE or FILE:LINE:COLUMN
+abbrev pub stop_in : List SourceText → List ℕ → Result Stop CommandFault
+stop_in sources bytes = stop_by sources bytes (number_in (drop (last_piece bytes) bytes))
 
 -- the register of this name, to be watched
 abbrev pub watched_register : ℕ → Result Watch CommandFault
@@ -180,35 +202,36 @@ watch_in bytes = watch_from (watched_in (word_in bytes)) (way_in (after_word byt
 abbrev pub find : Part → DebuggerCommand
 find part = command.Find part
 
-abbrev pub break_at : Spot → DebuggerCommand
-break_at spot = command.Break spot
+abbrev pub break_at : Stop → DebuggerCommand
+break_at stop = command.Break stop
 
 -- the command that takes this, with these bytes after its word
-abbrev pub command_in : Takes → List ℕ → Result DebuggerCommand CommandFault
-command_in (Nothing plain) bytes = alone (command.Plain plain) bytes
-command_in (Number counted) bytes = given (command.Counted counted) (number_in bytes)
-command_in (NumberOr counted otherwise) bytes = given (command.Counted counted) (number_or otherwise bytes)
-command_in Register bytes = given command.Register (register_in bytes)
-command_in ThePart bytes = given find (part_in bytes)
-command_in TheSpot bytes = given break_at (spot_in bytes)
-command_in TheWatch bytes = watch_in bytes
+abbrev pub command_in : List SourceText → Takes → List ℕ → Result DebuggerCommand CommandFault
+command_in sources (Nothing plain) bytes = alone (command.Plain plain) bytes
+command_in sources (Number counted) bytes = given (command.Counted counted) (number_in bytes)
+command_in sources (NumberOr counted otherwise) bytes = given (command.Counted counted) (number_or otherwise bytes)
+command_in sources Register bytes = given command.Register (register_in bytes)
+command_in sources ThePart bytes = given find (part_in bytes)
+command_in sources TheStop bytes = given break_at (stop_in sources bytes)
+command_in sources TheWatch bytes = watch_in bytes
 
-abbrev pub command_by : Option Takes → List ℕ → Result DebuggerCommand CommandFault
-command_by (Some takes) bytes = command_in takes bytes
-command_by None bytes = Err NoCommand
+abbrev pub command_by : List SourceText → Option Takes → List ℕ → Result DebuggerCommand CommandFault
+command_by sources (Some takes) bytes = command_in sources takes bytes
+command_by sources None bytes = Err NoCommand
 
--- what a line asks: its first word tells the command, and what comes after it is the operand
-abbrev pub command_of : List ℕ → Result DebuggerCommand CommandFault
-command_of line =
+-- what a line asks, where the string has these sources: its first word tells the command, and what comes after it is the operand
+abbrev pub command_of : List SourceText → List ℕ → Result DebuggerCommand CommandFault
+command_of sources line =
     let bytes = without_blanks_before (without_blanks_after line) in
-    command_by (taken verbs (word_in bytes)) (after_word bytes)
+    command_by sources (taken verbs (word_in bytes)) (after_word bytes)
 
 -- what is said of a line that is no command
 abbrev pub words_of : CommandFault → List ℕ
 words_of NoCommand = codes "no such command; help lists them"
 words_of NoNumber = codes "a number is wanted"
 words_of NoRegister = codes "a register is wanted, A to Z or 0 to 9"
-words_of NoPlace = codes "a place is wanted, as LINE:COLUMN"
+words_of NoPlace = codes "a place is wanted, as LINE, LINE:COLUMN or FILE:LINE"
+words_of NoSource = codes "no source has this name"
 words_of NoWatch = codes "a register, . or Z is wanted, and then back or nothing"
 words_of TooMuch = codes "nothing is wanted after this command"
 
@@ -221,21 +244,21 @@ abbrev pub OnlyShows : List ℕ → Debugger → Debugger → List ℕ → Type 
 OnlyShows text old new shown = (new ≡ old) × (shown ≡ text)
 
 -- what is shown of where a walk stands
-abbrev pub seen_shown : View → KeptWalk → List ℕ → Seen → List ℕ
-seen_shown Step walk string seen = step_shown walk string seen
-seen_shown Where walk string seen = where_shown walk string seen
-seen_shown Typed walk string seen = answer_line (spelled seen.typed.items)
+abbrev pub seen_shown : View → List SourceText → KeptWalk → Shown → List ℕ
+seen_shown Step sources walk there = step_at sources walk there
+seen_shown Where sources walk there = where_at sources walk there
+seen_shown Typed sources walk there = answer_line (spelled there.seen.typed.items)
 
 -- This is shown of where a walk stands, behind what was shown before.
-abbrev pub ShowsSeen : View → Option SourceText → KeptWalk → List ℕ → List ℕ → Type 0
-ShowsSeen view source walk old new = (seen : Seen) × IsShownAt source walk walk.steps seen
-    × (new ≡ old ++ seen_shown view walk (shown_string source walk.text) seen)
+abbrev pub ShowsSeen : View → List SourceText → KeptWalk → List ℕ → List ℕ → Type 0
+ShowsSeen view sources walk old new = (there : Shown) × IsShownAt sources walk walk.steps there
+    × (new ≡ old ++ seen_shown view sources walk there)
 
 -- Where the walk stands is shown, with all that is open there.
 abbrev pub ShowsWhere : Debugger → Debugger → List ℕ → Type 0
 ShowsWhere old new shown = (new ≡ old)
-    × ((seen : Seen) × IsShownAt old.source old.walk old.walk.steps seen
-    × (shown ≡ where_shown old.walk (shown_string old.source old.walk.text) seen))
+    × ((there : Shown) × IsShownAt old.sources.items old.walk old.walk.steps there
+    × (shown ≡ where_at old.sources.items old.walk there))
 
 -- A line for each command is shown, in their order, with its word and its letter.
 abbrev pub ShowsHelp : Debugger → Debugger → List ℕ → Type 0
@@ -250,14 +273,14 @@ GoesOrSays None words old new shown = OnlyShows (answer_line words) old new show
 -- It goes on to the next step that is there, if such a step comes.
 abbrev pub GoesOnTo : Stop → Debugger → Debugger → List ℕ → Type 0
 GoesOnTo stop old new shown =
-    ((n : ℕ) × IsNextStop old.source old.walk stop (old.walk.steps + 1) n × MovesTo n old new shown)
-    ⊎ (HasNoStop old.source old.walk stop (old.walk.steps + 1) old.limit
+    ((n : ℕ) × IsNextStop old.sources.items old.walk stop (old.walk.steps + 1) n × MovesTo n old new shown)
+    ⊎ (HasNoStop old.sources.items old.walk stop (old.walk.steps + 1) old.limit
     × OnlyShows (answer_line (codes "no step at that place comes, or it is too far")) old new shown)
 
 -- It goes on to the next step at the place to stop at, if one is noted and such a step comes.
-abbrev pub GoesOnToStop : Option Spot → Debugger → Debugger → List ℕ → Type 0
+abbrev pub GoesOnToStop : Option Stop → Debugger → Debugger → List ℕ → Type 0
 GoesOnToStop None old new shown = OnlyShows (answer_line (codes "no place to stop at is noted")) old new shown
-GoesOnToStop (Some spot) old new shown = GoesOnTo (stop.At spot) old new shown
+GoesOnToStop (Some stop) old new shown = GoesOnTo stop old new shown
 
 -- It goes back to before the last change of a part, if one was made.
 abbrev pub FindsChange : Option ℕ → Debugger → Debugger → List ℕ → Type 0
@@ -306,7 +329,7 @@ AnswersCounted counted.Goto n old new shown = MovesTo (min n old.limit) old new 
 AnswersCounted counted.Text n old new shown = OnlyShows (lines_there_shown (state_there old.walk) n) old new shown
 AnswersCounted counted.Undo n old new shown = TakesBack (moves_left n old.moves.items)
     (slice_get old.moves.items (moves_left n old.moves.items)) old new shown
-AnswersCounted counted.Until n old new shown = GoesOnTo (stop.Line n) old new shown
+AnswersCounted counted.Until n old new shown = GoesOnTo (line_stop n) old new shown
 
 -- what a command does, and what is shown of it
 abbrev pub AnswersCommand : DebuggerCommand → Debugger → Debugger → List ℕ → Type 0
@@ -317,7 +340,7 @@ AnswersCommand (command.Register q) old new shown =
 AnswersCommand (command.Find part) old new shown = FindsChange (last_change part old.walk.changes) old new shown
 AnswersCommand (command.Watch watched way) old new shown = Watches way watched old new shown
 -- the place is noted, and nothing is shown
-AnswersCommand (command.Break spot) old new shown = (new ≡ record old { stop = Some spot }) × (shown ≡ [])
+AnswersCommand (command.Break stop) old new shown = (new ≡ record old { stop = Some stop }) × (shown ≡ [])
 
 -- Memory was refused to the command. That alone is shown, with the step at which the walk then stands.
 pub record TellsNoMemory (old new : Debugger) (shown : List ℕ) : Type 0 where

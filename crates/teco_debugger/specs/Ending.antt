@@ -1,5 +1,6 @@
 -- How a run ends: its status, and the line that it tells on standard error.
-use Rattle.std.specs.Prelude.{◌≡◌, ◌⊎◌, ℕ, ◌<◌, List, [], ◌++◌, Option, Some, None, codes}
+use Rattle.std.specs.Prelude.{◌≡◌, ◌⊎◌, ℕ, ◌<◌, List, [], ◌++◌, map, Option, Some, None, codes}
+use Rattle.std.specs.List.{slice_index_or}
 use Rattle.std.specs.String.{string_bytes}
 use Rattle.std.specs.declared.alloc.Global.{Global}
 use Rattle.std.specs.declared.string.String.{String}
@@ -12,14 +13,14 @@ use Rattle.teco_messages.specs.Shown.{spot_shown}
 use Rattle.teco_messages.specs.declared.spot.Spot.{Spot}
 use Rattle.teco_debugger.specs.declared.line.DebuggerLine.{DebuggerLine}
 use Rattle.teco_debugger.specs.declared.line.Origin.{Origin}
-use Rattle.teco_debugger.specs.declared.line.Origin.TheVariants.{Word, File, Bytes}
+use Rattle.teco_debugger.specs.declared.line.Origin.TheVariants.{Sources, Bytes}
 use Rattle.teco_debugger.specs.declared.reading.FileFault.{FileFault}
 use Rattle.teco_debugger.specs.declared.reading.FileFault.TheVariants as file
 
 -- 0 of a run that is done, 3 if the source is no command string, 1 where a file, memory or the terminal failed
 abbrev pub status_of_ending : Ending → ℕ
 status_of_ending Done = 0
-status_of_ending (Caret spot) = 3
+status_of_ending (Caret number spot) = 3
 status_of_ending _ = 1
 
 -- a line that ends by LF
@@ -36,11 +37,10 @@ fault_words name file.Memory = name ++ codes ": no memory for it"
 abbrev pub caret_words : List ℕ → Spot → List ℕ
 caret_words name spot = name ++ (codes ":" ++ (spot_shown spot ++ codes ": a caret before what it cannot stand before"))
 
--- what the string is called: by its file's name, or by what its word is
-abbrev pub string_name : Origin → List ℕ
-string_name (Word strings) = codes "strings"
-string_name (File name) = string_bytes name
-string_name (Bytes name) = string_bytes name
+-- what a source is called: by its file's name, or by the option that gives it
+abbrev pub string_name : Origin → ℕ → List ℕ
+string_name (Sources names word) number = slice_index_or (map string_bytes names.items) number (codes "--execute")
+string_name (Bytes name) number = string_bytes name
 
 -- the name of the input, or nothing if the line names none
 abbrev pub input_name : Option (String Global) → List ℕ
@@ -50,8 +50,8 @@ input_name None = []
 -- what is told: a line, or nothing
 abbrev pub ending_line : DebuggerLine → Ending → List ℕ
 ending_line line Done = []
-ending_line line (NoText fault) = told_line (fault_words (string_name line.origin) fault)
-ending_line line (Caret spot) = told_line (caret_words (string_name line.origin) spot)
+ending_line line (NoText number fault) = told_line (fault_words (string_name line.origin number) fault)
+ending_line line (Caret number spot) = told_line (caret_words (string_name line.origin number) spot)
 ending_line line (NoInput fault) = told_line (fault_words (input_name line.input) fault)
 ending_line line NoMemory = told_line (codes "no memory")
 ending_line line ReadFault = told_line (codes "cannot read commands")

@@ -1,16 +1,15 @@
 -- The moves of a walk, and where it stops on the way.
-use Rattle.std.specs.Prelude.{◌≡◌, ◌↔◌, ◌⊎◌, ℕ, zero, suc, ◌+◌, ◌≤◌, ◌<◌, ◌==◌, ◌&&◌, Bool, true, false, List, [], ◌∷◌, ◌++◌, length, nat_le, Option, Some, None, IfSome}
+use Rattle.std.specs.Prelude.{◌≡◌, ◌⊎◌, ℕ, zero, suc, ◌+◌, ◌≤◌, ◌<◌, ◌==◌, ◌&&◌, Bool, true, false, List, [], ◌∷◌, ◌++◌, length, nat_le, Option, Some, None}
 use Rattle.teco_exec.specs.declared.place.Place.{Place}
 use Rattle.teco_messages.specs.Spot.{spot_of}
 use Rattle.teco_messages.specs.declared.spot.Spot.{Spot}
 use Rattle.teco_debugger.specs.Walk.{KeptWalk, SameString, meant}
-use Rattle.teco_debugger.specs.declared.walk.Seen.{Seen}
-use Rattle.teco_debugger.specs.Showing.{step_shown}
+use Rattle.teco_debugger.specs.Showing.{step_at}
 use Rattle.teco_debugger.specs.Sources.{IsShownAt, shown_string}
 use Rattle.teco_debugger.specs.declared.sources.SourceText.{SourceText}
+use Rattle.teco_debugger.specs.declared.sources.Shown.{Shown}
 use Rattle.teco_debugger.specs.declared.debugger.Debugger.{Debugger}
 use Rattle.teco_debugger.specs.declared.stops.Stop.{Stop}
-use Rattle.teco_debugger.specs.declared.stops.Stop.TheVariants.{At, Line}
 use Rattle.teco_debugger.specs.declared.stops.TheConstants.{MOST_WORK}
 
 -- The walk goes to the state after the first n steps of the string, or after all that it takes under a limit of n.
@@ -27,10 +26,10 @@ pub record SameRun (old new : Debugger) : Type 0 where
 -- The walk goes to a step, and the line of where it then stands is shown.
 pub record Arrives (n : ℕ) (old new : Debugger) (shown : List ℕ) : Type 0 where
   pub goes : Goes n old.walk new.walk
-  pub seen : Seen
-  pub seen_is : IsShownAt new.source new.walk new.walk.steps seen
-  pub shown_is : shown ≡ step_shown new.walk (shown_string new.source new.walk.text) seen
-  pub source : new.source ≡ old.source
+  pub there : Shown
+  pub there_is : IsShownAt new.sources.items new.walk new.walk.steps there
+  pub shown_is : shown ≡ step_at new.sources.items new.walk there
+  pub sources : new.sources ≡ old.sources
   pub limit : new.limit ≡ old.limit
   -- the place to stop at
   pub stop : new.stop ≡ old.stop
@@ -40,35 +39,47 @@ pub record MovesTo (n : ℕ) (old new : Debugger) (shown : List ℕ) : Type 0 wh
   pub arrives : Arrives n old new shown
   pub kept : new.moves.items ≡ old.moves.items ++ old.walk.steps ∷ []
 
--- a place to stop at is there: at this line and column, or anywhere in this line
-abbrev pub is_there : Stop → Spot → Bool
-is_there (At spot) here = here.line == spot.line && here.column == spot.column
-is_there (Line line) here = here.line == line
+-- anywhere in this line, of any source
+abbrev pub line_stop : ℕ → Stop
+line_stop line = record { source = None; line = line; column = None }
 
--- a place of a run is there in the string, with no call open
-abbrev pub is_at : List ℕ → Stop → Place → Bool
-is_at text stop place =
-    length place.calls.items == 0 && (nat_le place.at (length text) && is_there stop (spot_of text place.at))
+-- a number is the one that is wanted, if one is
+abbrev pub is_or_any : Option ℕ → ℕ → Bool
+is_or_any (Some wanted) n = n == wanted
+is_or_any None n = true
+
+-- a line and a column of the source of this number are the place to stop at
+abbrev pub is_there : Stop → ℕ → Spot → Bool
+is_there stop number here =
+    is_or_any stop.source number && (here.line == stop.line && is_or_any stop.column here.column)
+
+-- a place of a run is there in a source, with no call open
+abbrev pub is_at : List ℕ → Stop → ℕ → Place → Bool
+is_at text stop number place =
+    length place.calls.items == 0 && (nat_le place.at (length text) && is_there stop number (spot_of text place.at))
+
+abbrev pub is_stop_if : List ℕ → Stop → ℕ → ℕ → Option Place → Bool
+is_stop_if text stop n number None = false
+is_stop_if text stop n number (Some place) = place.steps == n && is_at text stop number place
 
 -- a run that was seen stands there after n steps
-abbrev pub is_stop : List ℕ → Stop → ℕ → Option Place → Bool
-is_stop text stop n None = false
-is_stop text stop n (Some place) = place.steps == n && is_at text stop place
+abbrev pub is_stop : List ℕ → Stop → ℕ → Shown → Bool
+is_stop text stop n shown = is_stop_if text stop n shown.number shown.seen.place
 
 -- The run of the string under a limit of n steps stands at the place to stop at, or not.
-abbrev pub StopsOr : Option SourceText → KeptWalk → Stop → ℕ → Bool → Type 0
-StopsOr source walk stop n so =
-    (seen : Seen) × IsShownAt source walk n seen × (is_stop (shown_string source walk.text) stop n seen.place ≡ so)
+abbrev pub StopsOr : List SourceText → KeptWalk → Stop → ℕ → Bool → Type 0
+StopsOr sources walk stop n so = (shown : Shown) × IsShownAt sources walk n shown
+    × (is_stop (shown_string sources shown.number walk.text) stop n shown ≡ so)
 
 -- No step from the one to the other, which is not among them, is at the place to stop at.
-abbrev pub PassesBetween : Option SourceText → KeptWalk → Stop → ℕ → ℕ → Type 0
-PassesBetween source walk stop from to = (n : ℕ) → from ≤ n → n < to → StopsOr source walk stop n false
+abbrev pub PassesBetween : List SourceText → KeptWalk → Stop → ℕ → ℕ → Type 0
+PassesBetween sources walk stop from to = (n : ℕ) → from ≤ n → n < to → StopsOr sources walk stop n false
 
 -- The step is the first one from there on that is at the place to stop at.
-pub record IsNextStop (source : Option SourceText) (walk : KeptWalk) (stop : Stop) (from n : ℕ) : Type 0 where
+pub record IsNextStop (sources : List SourceText) (walk : KeptWalk) (stop : Stop) (from n : ℕ) : Type 0 where
   pub after : from ≤ n
-  pub here : StopsOr source walk stop n true
-  pub passed : PassesBetween source walk stop from n
+  pub here : StopsOr sources walk stop n true
+  pub passed : PassesBetween sources walk stop from n
 
 -- how many steps are run to look at each step below n, each from the beginning
 unfoldable pub work_below : ℕ → ℕ
@@ -77,8 +88,8 @@ work_below (suc n) = work_below n + n
 
 -- No step up to some other one is at the place to stop at, and the way ends there: at the limit, behind the last step
 -- of the string, or where it takes too much work to look on.
-pub record HasNoStop (source : Option SourceText) (walk : KeptWalk) (stop : Stop) (from limit : ℕ) : Type 0 where
+pub record HasNoStop (sources : List SourceText) (walk : KeptWalk) (stop : Stop) (from limit : ℕ) : Type 0 where
   pub to : ℕ
-  pub passed : PassesBetween source walk stop from to
+  pub passed : PassesBetween sources walk stop from to
   pub ends : (limit ≤ to) ⊎ (((meant walk.input walk.text to).steps < to)
       ⊎ (MOST_WORK + work_below from < work_below (suc to)))

@@ -1,5 +1,5 @@
 -- Files that are read: the command string, and the input.
-use Rattle.std.specs.Prelude.{◌≡◌, ◌⊎◌, ℕ, List, [], map, Option, Some, None, Ok, Err}
+use Rattle.std.specs.Prelude.{◌≡◌, ◌⊎◌, ℕ, List, [], ◌∷◌, ◌++◌, codes, length, map, option_map, slice_get, Option, Some, None, Ok, Err}
 use Rattle.std.specs.String.{string_bytes}
 use Rattle.std.specs.declared.alloc.Global.{Global}
 use Rattle.std.specs.declared.io.Error.{Error}
@@ -15,15 +15,16 @@ use Rattle.teco_fs.specs.Reasons.{ComesTo}
 use Rattle.teco_fs.specs.declared.reason.Reason.TheVariants.{ReadFailed}
 use Rattle.teco_fs.specs.Seen.{DiskSeen}
 use Rattle.teco_messages.specs.Spot.{spot_of}
+use Rattle.teco_messages.specs.declared.spot.Spot.{Spot}
 use Rattle.teco_source.specs.Places.{places_of}
 use Rattle.teco_source.specs.Source.{commands_of}
 use Rattle.teco_debugger.specs.Spelling.{escaped}
 use Rattle.teco_debugger.specs.declared.debugger.Debugger.{Debugger}
 use Rattle.teco_debugger.specs.declared.ending.Ending.{Ending}
-use Rattle.teco_debugger.specs.declared.ending.Ending.TheVariants.{Caret, Done, NoText, NoInput, NoMemory, ReadFault, ShowFault}
+use Rattle.teco_debugger.specs.declared.ending.Ending.TheVariants.{Caret, NoText, NoInput, NoMemory}
 use Rattle.teco_debugger.specs.declared.line.DebuggerLine.{DebuggerLine}
 use Rattle.teco_debugger.specs.declared.line.Origin.{Origin}
-use Rattle.teco_debugger.specs.declared.line.Origin.TheVariants.{Word, File, Bytes}
+use Rattle.teco_debugger.specs.declared.line.Origin.TheVariants.{Sources, Bytes}
 use Rattle.teco_debugger.specs.declared.reading.Given.{Given}
 use Rattle.teco_debugger.specs.declared.sources.SourceText.{SourceText}
 use Rattle.teco_debugger.specs.declared.reading.FileFault.{FileFault}
@@ -43,38 +44,60 @@ IsNotRead {I} files new name fault = ((error : Error) × new.gave error × Comes
     × IsFaultOf FILE_LIMIT (Gives new.input.coming new.input.bound new.input.failures first last) read
     × (fault ≡ fault_after read))
 
--- The source has a caret at this spot that stands before what it cannot stand before; or memory was refused.
-abbrev pub IsUnreadable : List ℕ → Ending → Type 0
-IsUnreadable source (Caret spot) = (at : ℕ) × (commands_of source ≡ Err at) × (spot ≡ spot_of source at)
-IsUnreadable source NoMemory = Unit {0}
-IsUnreadable source _ = ⊥
+-- The source has a caret at this spot that stands before what it cannot stand before.
+abbrev pub HasFaultyCaret : List ℕ → Spot → Type 0
+HasFaultyCaret source spot = (at : ℕ) × (commands_of source ≡ Err at) × (spot ≡ spot_of source at)
 
--- A command string was read from a source, by which it is shown.
-pub record IsReadFrom (source text : List ℕ) (shown : SourceText) : Type 0 where
-  pub read : commands_of source ≡ Ok text
-  pub bytes : shown.text.items ≡ map escaped source
+-- The source of this number has such a caret; or memory was refused.
+abbrev pub IsUnreadable : ℕ → List ℕ → Ending → Type 0
+IsUnreadable number source (Caret n spot) = (n ≡ number) × HasFaultyCaret source spot
+IsUnreadable number source NoMemory = Unit {0}
+IsUnreadable number source _ = ⊥
+
+-- A source as it is shown, whose bytes of the string come after so many.
+pub record IsShownFrom (name : List ℕ) (from : ℕ) (source : List ℕ) (shown : SourceText) : Type 0 where
+  pub name_is : string_bytes shown.name ≡ name
+  pub from_is : shown.from ≡ from
+  pub text : shown.text.items ≡ map escaped source
   pub places : shown.places.items ≡ places_of source
 
-abbrev pub IsShownFrom : List ℕ → List ℕ → Option SourceText → Type 0
-IsShownFrom source text None = ⊥
-IsShownFrom source text (Some shown) = IsReadFrom source text shown
+-- The commands of a source come behind the others, and it is the last of the sources.
+pub record AddsSource (name source : List ℕ) (old new : Given) : Type 0 where
+  pub commands : List ℕ
+  pub read : commands_of source ≡ Ok commands
+  pub text : new.text.items ≡ old.text.items ++ commands
+  pub shown : SourceText
+  pub is_shown : IsShownFrom name (length old.text.items) source shown
+  pub sources : new.sources.items ≡ old.sources.items ++ shown ∷ []
 
-abbrev pub IsGivenBy : List ℕ → Given → Type 0
-IsGivenBy source given = IsShownFrom source given.text.items given.source
+-- The same of the sources in the files of these names, one after another.
+abbrev pub AddsFiles : Option Files → List (String Global) → Given → Given → Type 0
+AddsFiles files [] old new = new ≡ old
+AddsFiles files (name ∷ names) old new = (mid : Given) × (source : List ℕ) × IsInput files (string_bytes name) source
+    × AddsSource (string_bytes name) source old mid × AddsFiles files names mid new
 
--- The string was read from the source in the file of this name; or it is what that file has, as it is.
-abbrev pub IsFromFile : Option Files → List ℕ → List ℕ → Option SourceText → Type 0
-IsFromFile files name text shown = (source : List ℕ) × IsInput files name source × IsShownFrom source text shown
+-- and of the source in a word, if there is one
+abbrev pub AddsWord : Option (List ℕ) → Given → Given → Type 0
+AddsWord None old new = new ≡ old
+AddsWord (Some word) old new = AddsSource (codes "--execute") word old new
 
-abbrev pub IsOfBytes : Option Files → List ℕ → List ℕ → Option SourceText → Type 0
-IsOfBytes files name text None = IsInput files name text
-IsOfBytes files name text (Some shown) = ⊥
+-- The string is that of the sources in files and in a word, from none on.
+pub record IsOfSources (files : Option Files) (names : List (String Global)) (word : Option (List ℕ)) (given : Given) : Type 0 where
+  pub none : Given
+  pub text : none.text.items ≡ []
+  pub sources : none.sources.items ≡ []
+  pub mid : Given
+  pub adds_files : AddsFiles files names none mid
+  pub adds_word : AddsWord word mid given
 
--- The command string of the line, and the source by which it is shown: that of a word or of a file, or what a file has as it is.
-abbrev pub IsStringOf : Option Files → Origin → List ℕ → Option SourceText → Type 0
-IsStringOf files (Word strings) text shown = IsShownFrom (string_bytes strings) text shown
-IsStringOf files (File name) text shown = IsFromFile files (string_bytes name) text shown
-IsStringOf files (Bytes name) text shown = IsOfBytes files (string_bytes name) text shown
+-- It is what a file has, as it is.
+abbrev pub IsOfBytes : Option Files → List ℕ → Given → Type 0
+IsOfBytes files name given = IsInput files name given.text.items × (given.sources.items ≡ [])
+
+-- The command string of the line, and its sources.
+abbrev pub IsStringOf : Option Files → Origin → Given → Type 0
+IsStringOf files (Sources names word) given = IsOfSources files names.items (option_map string_bytes word) given
+IsStringOf files (Bytes name) given = IsOfBytes files (string_bytes name) given
 
 -- The input is what the file has, or nothing where no file is named.
 abbrev pub IsInputOf : Option Files → Option (String Global) → List ℕ → Type 0
@@ -84,37 +107,48 @@ IsInputOf files None input = input ≡ []
 -- The debugger stands before the first step of the line's command string, over the line's input, under its limit. No
 -- move is done yet, and no place to stop at is noted.
 pub record BeginsOver (files : Option Files) (line : DebuggerLine) (debugger : Debugger) : Type 0 where
-  pub text : IsStringOf files line.origin debugger.walk.text debugger.source
+  pub given : Given
+  pub given_is : IsStringOf files line.origin given
+  pub text : debugger.walk.text ≡ given.text.items
+  pub sources : debugger.sources ≡ given.sources
   pub input : IsInputOf files line.input debugger.walk.input
   pub steps : debugger.walk.steps ≡ 0
   pub limit : debugger.limit ≡ line.limit
   pub moves : debugger.moves.items ≡ []
   pub stop : debugger.stop ≡ None
 
--- Why the string is not had: its file is not read, or its source has a caret at this spot that stands before what it cannot stand
--- before; or memory was refused.
-abbrev pub LacksBytes : {I : Type 0} → Option Files → DiskSeen I → List ℕ → Ending → Type 0
-LacksBytes files new name (NoText fault) = IsNotRead files new name fault
-LacksBytes files new name _ = ⊥
+-- The file of this number and name is not read.
+abbrev pub LacksFile : {I : Type 0} → Option Files → DiskSeen I → ℕ → List ℕ → Ending → Type 0
+LacksFile files new number name (NoText n fault) = (n ≡ number) × IsNotRead files new name fault
+LacksFile files new number name _ = ⊥
 
-abbrev pub LacksFile : {I : Type 0} → Option Files → DiskSeen I → List ℕ → Ending → Type 0
-LacksFile files new name (NoText fault) = IsNotRead files new name fault
-LacksFile files new name (Caret spot) = (source : List ℕ) × IsInput files name source × IsUnreadable source (Caret spot)
-LacksFile files new name NoMemory = Unit {0}
-LacksFile files new name _ = ⊥
+-- Why the sources in some files are not had: that of this number is not read, or has a caret at this spot that stands before what it
+-- cannot stand before; or memory was refused.
+abbrev pub LacksEach : {I : Type 0} → Option Files → DiskSeen I → List (String Global) → Ending → Type 0
+LacksEach files new names (NoText number fault) =
+    (name : String Global) × (slice_get names number ≡ Some name) × IsNotRead files new (string_bytes name) fault
+LacksEach files new names (Caret number spot) = (name : String Global) × (slice_get names number ≡ Some name)
+    × ((source : List ℕ) × IsInput files (string_bytes name) source × HasFaultyCaret source spot)
+LacksEach files new names NoMemory = Unit {0}
+LacksEach files new names _ = ⊥
 
+-- The same of a word, which has this number.
+abbrev pub LacksWord : ℕ → Option (List ℕ) → Ending → Type 0
+LacksWord number None ending = ⊥
+LacksWord number (Some word) ending = IsUnreadable number word ending
+
+-- and of sources in files and then in a word
+abbrev pub LacksSources : {I : Type 0} → Option Files → DiskSeen I → List (String Global) → Option (List ℕ) → Ending → Type 0
+LacksSources files new names word ending = LacksEach files new names ending ⊎ LacksWord (length names) word ending
+
+-- Why the string of the line is not had.
 abbrev pub LacksString : {I : Type 0} → Option Files → DiskSeen I → Origin → Ending → Type 0
-LacksString files new (Word strings) ending = IsUnreadable (string_bytes strings) ending
-LacksString files new (File name) ending = LacksFile files new (string_bytes name) ending
-LacksString files new (Bytes name) ending = LacksBytes files new (string_bytes name) ending
+LacksString files new (Sources names word) ending = LacksSources files new names.items (option_map string_bytes word) ending
+LacksString files new (Bytes name) ending = LacksFile files new 0 (string_bytes name) ending
 
 -- Why there is no debugger: the string or the input is not had, or memory was refused.
 abbrev pub CannotRead : {I : Type 0} → Option Files → DiskSeen I → DebuggerLine → Ending → Type 0
-CannotRead files new line (NoText fault) = LacksString files new line.origin (NoText fault)
-CannotRead files new line (Caret spot) = LacksString files new line.origin (Caret spot)
+CannotRead files new line NoMemory = Unit {0}
 CannotRead files new line (NoInput fault) =
     (name : String Global) × (line.input ≡ Some name) × IsNotRead files new (string_bytes name) fault
-CannotRead files new line NoMemory = Unit {0}
-CannotRead files new line Done = ⊥
-CannotRead files new line ReadFault = ⊥
-CannotRead files new line ShowFault = ⊥
+CannotRead files new line ending = LacksString files new line.origin ending

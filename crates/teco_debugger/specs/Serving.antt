@@ -28,47 +28,58 @@ pub record TakesLine (line : List ℕ) (before after : Option (List ℕ)) : Type
 -- What the debugger does with a line, and how the serving ends by it, if it does.
 abbrev pub Obeys : List ℕ → Option Ending → Debugger → Debugger → Screen → Screen → Type 0
 -- it is answered, and all of the answer is shown
-Obeys line None old new before after = (is_leaving (command_of line) ≡ false)
-    × ((shown : List ℕ) × IsAnswerTo (command_of line) old new shown × Shows before after shown false)
+Obeys line None old new before after = (is_leaving (command_of old.sources.items line) ≡ false)
+    × ((shown : List ℕ) × IsAnswerTo (command_of old.sources.items line) old new shown × Shows before after shown false)
 -- it asks to leave
 Obeys line (Some Done) old new before after =
-    (is_leaving (command_of line) ≡ true) × (new ≡ old) × (after ≡ before)
+    (is_leaving (command_of old.sources.items line) ≡ true) × (new ≡ old) × (after ≡ before)
 -- a beginning of its answer is shown, and then the terminal failed
-Obeys line (Some ShowFault) old new before after = (shown : List ℕ) × IsAnswerTo (command_of line) old new shown
+Obeys line (Some ShowFault) old new before after = (shown : List ℕ) × IsAnswerTo (command_of old.sources.items line) old new shown
     × ((front : List ℕ) × IsFrontOf front shown × Shows before after front true)
 -- memory was refused, even to say so
 Obeys line (Some NoMemory) old new before after = SameRun old new × (after ≡ before)
 Obeys line (Some ReadFault) old new before after = ⊥
-Obeys line (Some (Caret spot)) old new before after = ⊥
-Obeys line (Some (NoText fault)) old new before after = ⊥
+Obeys line (Some (Caret number spot)) old new before after = ⊥
+Obeys line (Some (NoText number fault)) old new before after = ⊥
 Obeys line (Some (NoInput fault)) old new before after = ⊥
-
--- No line is read: none is left, or a read failed. Nothing is done.
-abbrev pub EndsUnread : Option Ending → Stage → Stage → Type 0
-EndsUnread (Some Done) a b = IsAtEnd a.coming × (b.debugger ≡ a.debugger) × (b.screen ≡ a.screen)
-EndsUnread (Some ReadFault) a b = (b.debugger ≡ a.debugger) × (b.screen ≡ a.screen)
-EndsUnread _ a b = ⊥
 
 -- The next line is read and obeyed.
 abbrev pub ServesNext : Option Ending → Stage → Stage → Type 0
 ServesNext ending a b = (line : List ℕ) × TakesLine line a.coming b.coming
     × Obeys line ending a.debugger b.debugger a.screen b.screen
 
--- A star and a blank are shown where a line is awaited, if lines are typed at a terminal.
-abbrev pub Asks : Bool → Screen → Screen → Type 0
-Asks true before after = Shows before after (codes "* ") false
-Asks false before after = after ≡ before
+-- These bytes are shown, if lines are typed at a terminal.
+abbrev pub ShowsIf : Bool → List ℕ → Screen → Screen → Type 0
+ShowsIf true bytes before after = Shows before after bytes false
+ShowsIf false bytes before after = after ≡ before
 
 -- A beginning of them is shown, and then the terminal failed.
-abbrev pub FailsToAsk : Screen → Screen → Type 0
-FailsToAsk before after = (front : List ℕ) × IsFrontOf front (codes "* ") × Shows before after front true
+abbrev pub StopsShowing : List ℕ → Screen → Screen → Type 0
+StopsShowing bytes before after = (front : List ℕ) × IsFrontOf front bytes × Shows before after front true
+
+-- A star and a blank are shown where a line is awaited, if lines are typed at a terminal.
+abbrev pub Asks : Bool → Screen → Screen → Type 0
+Asks prompts before after = ShowsIf prompts (codes "* ") before after
+
+-- How the serving ends where no line is left: the line of the star ends, if one is shown.
+abbrev pub EndsStar : Bool → Ending → Screen → Screen → Type 0
+EndsStar prompts Done before after = ShowsIf prompts (codes "\n") before after
+EndsStar prompts ShowFault before after = StopsShowing (codes "\n") before after
+EndsStar prompts _ before after = ⊥
+
+-- No line is read: a read failed, or none is left. Nothing is done.
+abbrev pub EndsUnread : Bool → Option Ending → Stage → Stage → Type 0
+EndsUnread prompts None a b = ⊥
+EndsUnread prompts (Some ReadFault) a b = (b.debugger ≡ a.debugger) × (b.screen ≡ a.screen)
+EndsUnread prompts (Some ending) a b =
+    IsAtEnd a.coming × (b.debugger ≡ a.debugger) × EndsStar prompts ending a.screen b.screen
 
 -- A line is asked for, and then the next one is read and obeyed, or none is read.
 abbrev pub AsksAndServes : Bool → Option Ending → Stage → Stage → Type 0
 AsksAndServes prompts ending a b =
     ((asked : Screen) × Asks prompts a.screen asked
-    × (ServesNext ending (record a { screen = asked }) b ⊎ EndsUnread ending (record a { screen = asked }) b))
-    ⊎ ((ending ≡ Some ShowFault) × (b.debugger ≡ a.debugger) × FailsToAsk a.screen b.screen)
+    × (ServesNext ending (record a { screen = asked }) b ⊎ EndsUnread prompts ending (record a { screen = asked }) b))
+    ⊎ ((ending ≡ Some ShowFault) × (b.debugger ≡ a.debugger) × StopsShowing (codes "* ") a.screen b.screen)
 
 -- Lines were asked for and answered, one after another.
 abbrev pub AnswersLines : Bool → ℕ → Stage → Stage → Type 0

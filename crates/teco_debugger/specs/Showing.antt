@@ -12,6 +12,9 @@ use Rattle.teco_messages.specs.Spelling.{spelled}
 use Rattle.teco_messages.specs.Spot.{is_newline}
 use Rattle.teco_messages.specs.Token.{token_in}
 use Rattle.teco_debugger.specs.Walk.{KeptWalk, state_there}
+use Rattle.teco_debugger.specs.Sources.{shown_name, shown_string}
+use Rattle.teco_debugger.specs.declared.sources.SourceText.{SourceText}
+use Rattle.teco_debugger.specs.declared.sources.Shown.{Shown}
 use Rattle.teco_debugger.specs.declared.walk.Seen.{Seen}
 use Rattle.teco_debugger.specs.declared.showing.TheConstants.{MOST_FAULTY}
 use Prim.Native.Char.{code}
@@ -33,10 +36,19 @@ code_there None = []
 code_there (Some Lim) = []
 code_there (Some code) = code_shown code
 
+-- what stands between the name of a source and a place: a colon, or a comma where a call is open
+abbrev pub name_end : Place → List ℕ
+name_end place = if length place.calls.items == 0 then codes ":" else codes ", "
+
+-- the name of the source, if it is to be shown and there is a place
+abbrev pub name_there : List ℕ → Option Place → List ℕ
+name_there name None = []
+name_there name (Some place) = if length name == 0 then [] else name ++ name_end place
+
 -- the step, the place, the token and the code, in a line
-abbrev pub step_shown : KeptWalk → List ℕ → Seen → List ℕ
-step_shown w string seen =
-    codes "step " ++ decimal w.steps ++ codes ", " ++ place_there w string seen.place ++ code_there seen.outcome.code ++ codes "\n"
+abbrev pub step_shown : KeptWalk → List ℕ → List ℕ → Seen → List ℕ
+step_shown w name string seen = codes "step " ++ decimal w.steps ++ codes ", " ++ name_there name seen.place
+    ++ place_there w string seen.place ++ code_there seen.outcome.code ++ codes "\n"
 
 -- where the line of a place begins and ends
 abbrev pub line_start_of : List ℕ → ℕ → ℕ
@@ -110,5 +122,12 @@ lines_there w string (Some place) =
     ++ call_lines w string place (length place.calls.items)
 
 -- the step, the line with its token marked, the open iterations and calls
-abbrev pub where_shown : KeptWalk → List ℕ → Seen → List ℕ
-where_shown w string seen = step_shown w string seen ++ lines_there w string seen.place
+abbrev pub where_shown : KeptWalk → List ℕ → List ℕ → Seen → List ℕ
+where_shown w name string seen = step_shown w name string seen ++ lines_there w string seen.place
+
+-- the same by the sources of the string
+abbrev pub step_at : List SourceText → KeptWalk → Shown → List ℕ
+step_at sources w there = step_shown w (shown_name sources there.number) (shown_string sources there.number w.text) there.seen
+
+abbrev pub where_at : List SourceText → KeptWalk → Shown → List ℕ
+where_at sources w there = where_shown w (shown_name sources there.number) (shown_string sources there.number w.text) there.seen

@@ -1,16 +1,18 @@
 //! The commands, a line each.
 ghost use Rattle.std.specs.List.{prefix_len, suffix_len};
 ghost use Rattle.std.specs.Prelude.{◌≡◌, ℕ, ◌≤◌, length, not, Result, Some};
-ghost use Rattle.teco_debugger.specs.Commands.{break_at, colon_in, command_in, command_of, find, given, is_blank, part_in, register_in, spot_in, watch_in, watched_by, watched_in, watched_register, way_in, without_blanks_after, without_blanks_before, words_of};
+ghost use Rattle.teco_debugger.specs.Number.{number_in};
+ghost use Rattle.teco_debugger.specs.Commands.{break_at, command_in, command_of, find, given, is_blank, last_piece, part_in, register_in, source_named, stop_behind, stop_in, stop_of, watch_in, watched_by, watched_in, watched_register, way_in, without_blanks_after, without_blanks_before, words_of};
 
 use crate::number::number_in;
 use crate::part::Part;
+use crate::sources::SourceText;
+use crate::stops::{Stop, line_stop};
 use crate::verb::{Counted, Plain, Takes, takes_of};
 use crate::watching::{Watch, Way};
 use std::error::Error;
 use std::fmt;
 use teco_core::Reg;
-use teco_messages::Spot;
 
 /// What is asked.
 #[derive(Clone, Copy)]
@@ -21,7 +23,7 @@ pub enum DebuggerCommand {
     /// Back to before the last change of the part.
     Find(Part),
     /// The place to stop at.
-    Break(Spot),
+    Break(Stop),
     /// To the nearest step, this way, where what is watched differs.
     Watch(Watch, Way),
 }
@@ -33,6 +35,7 @@ pub enum CommandFault {
     NoNumber,
     NoRegister,
     NoPlace,
+    NoSource,
     NoWatch,
     TooMuch,
 }
@@ -46,7 +49,8 @@ impl CommandFault {
             CommandFault::NoCommand => "no such command; help lists them",
             CommandFault::NoNumber => "a number is wanted",
             CommandFault::NoRegister => "a register is wanted, A to Z or 0 to 9",
-            CommandFault::NoPlace => "a place is wanted, as LINE:COLUMN",
+            CommandFault::NoPlace => "a place is wanted, as LINE, LINE:COLUMN or FILE:LINE",
+            CommandFault::NoSource => "no source has this name",
             CommandFault::NoWatch => "a register, . or Z is wanted, and then back or nothing",
             CommandFault::TooMuch => "nothing is wanted after this command",
         }
@@ -117,29 +121,79 @@ fn find_in(bytes: &[u8]) -> Result<DebuggerCommand, CommandFault>
     Ok(DebuggerCommand::Find(Part::Register(register_in(bytes)?)))
 }
 
-/// Where the first colon is; the length where there is none.
-fn colon(bytes: &[u8]) -> usize
-    ensures value { result ≡ colon_in bytes.now }
+/// Where the last of the pieces begins that colons part.
+fn last_piece(bytes: &[u8]) -> usize
+    ensures value { result ≡ last_piece bytes.now }
     ensures within { result ≤ length bytes.now }
 {
-    let mut at = 0;
-    while at < bytes.len() && bytes[at] != b':' {
-        at += 1;
+    let mut start = bytes.len();
+    while start > 0 && bytes[start - 1] != b':' {
+        start -= 1;
     }
-    at
+    start
 }
 
-/// The command that notes the place.
-fn break_in(bytes: &[u8]) -> Result<DebuggerCommand, CommandFault>
-    ensures { result ≡ given break_at (spot_in bytes.now) }
+/// The number of the first source of this name.
+fn source_named(sources: &[SourceText], name: &[u8]) -> Option<usize>
+    ensures { result ≡ source_named sources.now name.now 0 }
 {
-    let at = colon(bytes);
-    if at == bytes.len() {
-        return Err(CommandFault::NoPlace);
+    for (number, source) in sources.iter().enumerate() {
+        if name == source.name.as_bytes() {
+            return Some(number);
+        }
     }
-    match (number_in(&bytes[..at]), number_in(&bytes[at + 1..])) {
-        (Ok(line), Ok(column)) => Ok(DebuggerCommand::Break(Spot { line, column })),
-        _ => Err(CommandFault::NoPlace),
+    None
+}
+
+/// A place in the source of this name.
+fn stop_in_source(
+    sources: &[SourceText],
+    name: &[u8],
+    line: u64,
+    column: Option<u64>,
+) -> Result<Stop, CommandFault>
+    ensures { result ≡ stop_of (source_named sources.now name.now 0) line column }
+{
+    match source_named(sources, name) {
+        Some(number) => Ok(Stop {
+            source: Some(number),
+            line,
+            column,
+        }),
+        None => Err(CommandFault::NoSource),
+    }
+}
+
+/// The place to stop at, of which these bytes stand before a colon and a number.
+fn stop_behind(sources: &[SourceText], front: &[u8], last: u64) -> Result<Stop, CommandFault>
+    ensures { result ≡ stop_behind sources.now front.now last (number_in front.now) }
+{
+    if let Ok(line) = number_in(front) {
+        return Ok(Stop {
+            source: None,
+            line,
+            column: Some(last),
+        });
+    }
+    let start = last_piece(front);
+    match number_in(&front[start..]) {
+        Ok(line) => {
+            let name = &front[..start.saturating_sub(1)];
+            stop_in_source(sources, name, line, Some(last))
+        }
+        Err(_) => stop_in_source(sources, front, last, None),
+    }
+}
+
+/// The place to stop at.
+fn stop_in(sources: &[SourceText], bytes: &[u8]) -> Result<Stop, CommandFault>
+    ensures { result ≡ stop_in sources.now bytes.now }
+{
+    let start = last_piece(bytes);
+    match number_in(&bytes[start..]) {
+        Err(_) => Err(CommandFault::NoPlace),
+        Ok(line) if start == 0 => Ok(line_stop(line)),
+        Ok(last) => stop_behind(sources, &bytes[..start - 1], last),
     }
 }
 
@@ -201,8 +255,12 @@ fn watch_in(bytes: &[u8]) -> Result<DebuggerCommand, CommandFault>
 }
 
 /// The command that takes this, with these bytes after its word.
-fn command_in(takes: Takes, bytes: &[u8]) -> Result<DebuggerCommand, CommandFault>
-    ensures { result ≡ command_in takes bytes.now }
+fn command_in(
+    sources: &[SourceText],
+    takes: Takes,
+    bytes: &[u8],
+) -> Result<DebuggerCommand, CommandFault>
+    ensures { result ≡ command_in sources.now takes bytes.now }
 {
     match takes {
         Takes::Nothing(plain) if bytes.is_empty() => Ok(DebuggerCommand::Plain(plain)),
@@ -215,20 +273,21 @@ fn command_in(takes: Takes, bytes: &[u8]) -> Result<DebuggerCommand, CommandFaul
         }
         Takes::Register => Ok(DebuggerCommand::Register(register_in(bytes)?)),
         Takes::Part => find_in(bytes),
-        Takes::Spot => break_in(bytes),
+        Takes::Stop => Ok(DebuggerCommand::Break(stop_in(sources, bytes)?)),
         Takes::Watch => watch_in(bytes),
     }
 }
 
 impl DebuggerCommand {
-    /// The command of a line: its first word tells which, and what comes after it is the operand. Blanks around both are passed.
-    pub fn of(line: &[u8]) -> Result<DebuggerCommand, CommandFault>
-        ensures { result ≡ command_of line.now }
+    /// The command of a line, if the string has these sources: its first word tells which, and what comes after it is the operand.
+    /// Blanks around both are passed.
+    pub fn of(sources: &[SourceText], line: &[u8]) -> Result<DebuggerCommand, CommandFault>
+        ensures { result ≡ command_of sources.now line.now }
     {
         let bytes = after_blanks(before_blanks(line));
         let end = word_end(bytes);
         match takes_of(&bytes[..end]) {
-            Some(takes) => command_in(takes, after_blanks(&bytes[end..])),
+            Some(takes) => command_in(sources, takes, after_blanks(&bytes[end..])),
             None => Err(CommandFault::NoCommand),
         }
     }

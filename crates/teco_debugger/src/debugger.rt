@@ -9,13 +9,13 @@ use crate::help::{show_help, verb_rows};
 use crate::listing::{show_register, show_registers, show_state, show_text};
 use crate::moving::{ahead, behind};
 use crate::showing::{show_step, show_where};
-use crate::sources::{SourceText, look, shown_string};
-use crate::stops::{Stop, next_stop};
+use crate::sources::{SourceText, look, shown_name, shown_string};
+use crate::stops::{Stop, line_stop, next_stop};
 use crate::watching::nearest_other;
 use crate::{Counted, DebuggerCommand, Plain, Walk, Watch, Way};
 use std::alloc::Global;
 use teco_core::NoMemory;
-use teco_messages::{Spot, spell};
+use teco_messages::spell;
 use teco_store::Desk;
 
 /// A walk, with what the commands need beside it.
@@ -25,9 +25,9 @@ pub struct Debugger {
     limit: u64,
     /// Where the walk stood before each move that can be taken back.
     moves: Vec<u64>,
-    stop: Option<Spot>,
-    /// The source of the string, if it has one.
-    source: Option<SourceText>,
+    stop: Option<Stop>,
+    /// The sources of the string, in their order; none where it is shown as it is.
+    sources: Vec<SourceText>,
 }
 
 /// Shows a line of words.
@@ -68,12 +68,12 @@ pub enum View {
 }
 
 impl Debugger {
-    pub fn new(walk: Walk, limit: u64, source: Option<SourceText>) -> Debugger
+    pub fn new(walk: Walk, limit: u64, sources: Vec<SourceText>) -> Debugger
         ensures walk { result.walk ≡ walk }
         ensures limit { result.limit ≡ limit }
         ensures moves { result.moves.items ≡ [] }
         ensures stop { result.stop ≡ None }
-        ensures source { result.source ≡ source }
+        ensures sources { result.sources ≡ sources }
     {
         let moves = Vec::new(walk.alloc());
         Debugger {
@@ -81,21 +81,30 @@ impl Debugger {
             limit,
             moves,
             stop: None,
-            source,
+            sources,
         }
     }
 
     /// Shows where the walk stands.
     fn show(&self, out: &mut String, view: View) -> Result<(), NoMemory>
-        ensures { OnOk result (ShowsSeen view self.now.source self.now.walk (string_bytes out.old) (string_bytes out.new)) }
+        ensures { OnOk result (ShowsSeen view self.now.sources.items self.now.walk (string_bytes out.old) (string_bytes out.new)) }
     {
-        let seen = look(&self.walk, &self.source, self.walk.steps())?;
-        let string = shown_string(&self.source, self.walk.text());
+        let sources = self.sources.as_slice();
+        let there = look(&self.walk, sources, self.walk.steps())?;
+        let name = shown_name(sources, there.number);
+        let string = shown_string(sources, there.number, self.walk.text());
         match view {
-            View::Step => show_step(out, &self.walk, string, &seen),
-            View::Where => show_where(out, &self.walk, string, &seen),
-            View::Typed => show_typed(out, seen.typed.as_slice()),
+            View::Step => show_step(out, &self.walk, name, string, &there.seen),
+            View::Where => show_where(out, &self.walk, name, string, &there.seen),
+            View::Typed => show_typed(out, there.seen.typed.as_slice()),
         }
+    }
+
+    /// The sources of the string.
+    pub fn sources(&self) -> &[SourceText]
+        ensures { result.now ≡ self.now.sources.items }
+    {
+        self.sources.as_slice()
     }
 
     /// Goes to a step, and shows where the walk then stands.
@@ -155,15 +164,21 @@ impl Debugger {
 
     /// The next step at the place to stop at.
     fn next_stop(&self, stop: Stop) -> Result<Option<u64>, NoMemory>
-        ensures found { IfOk result (λ found. IfSome found (IsNextStop self.now.source self.now.walk stop (self.now.walk.steps + 1))) }
+        ensures found { IfOk result (λ found. IfSome found (IsNextStop self.now.sources.items self.now.walk stop (self.now.walk.steps + 1))) }
         ensures none { IfOk result (λ found. IfNone found
-            (HasNoStop self.now.source self.now.walk stop (self.now.walk.steps + 1) self.now.limit)) }
+            (HasNoStop self.now.sources.items self.now.walk stop (self.now.walk.steps + 1) self.now.limit)) }
     {
         let steps = self.walk.steps();
         if steps >= self.limit {
             return Ok(None);
         }
-        next_stop(&self.walk, &self.source, stop, steps + 1, self.limit)
+        next_stop(
+            &self.walk,
+            self.sources.as_slice(),
+            stop,
+            steps + 1,
+            self.limit,
+        )
     }
 
     /// Goes on to the next step that is there.
@@ -183,7 +198,7 @@ impl Debugger {
         ensures same { SameRun self.old self.new }
     {
         match self.stop {
-            Some(spot) => self.go_on_to(out, Stop::At(spot)),
+            Some(stop) => self.go_on_to(out, stop),
             None => show_words(out, "no place to stop at is noted"),
         }
     }
@@ -230,7 +245,7 @@ impl Debugger {
             Counted::Goto => self.go(out, n.min(self.limit)),
             Counted::Text => show_text(out, self.walk.editor(), n),
             Counted::Undo => self.take_back(out, moves.saturating_sub(n as usize)),
-            Counted::Until => self.go_on_to(out, Stop::Line(n)),
+            Counted::Until => self.go_on_to(out, line_stop(n)),
         }
     }
 
@@ -249,8 +264,8 @@ impl Debugger {
                 self.go_or_say(out, to, "no step before this one changed it")
             }
             DebuggerCommand::Watch(watch, way) => self.watch(out, watch, way),
-            DebuggerCommand::Break(spot) => {
-                self.stop = Some(spot);
+            DebuggerCommand::Break(stop) => {
+                self.stop = Some(stop);
                 Ok(())
             }
         }
@@ -277,10 +292,10 @@ impl Debugger {
 
     /// The answer to a line.
     pub fn answer_to(&mut self, alloc: Global, line: &[u8]) -> Result<String, NoMemory>
-        ensures answers { IfOk result (λ text. IsAnswerTo (command_of line.now) self.old self.new (string_bytes text)) }
+        ensures answers { IfOk result (λ text. IsAnswerTo (command_of self.old.sources.items line.now) self.old self.new (string_bytes text)) }
         ensures same { SameRun self.old self.new }
     {
-        match DebuggerCommand::of(line) {
+        match DebuggerCommand::of(self.sources.as_slice(), line) {
             Ok(command) => self.answer_or_lack(alloc, command),
             Err(fault) => format!(in alloc; "{fault}\n"),
         }

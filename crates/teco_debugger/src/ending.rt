@@ -2,7 +2,7 @@
 ghost use Rattle.std.specs.Prelude.{◌≡◌, ◌<◌, ◌++◌, IfOk, OnErr};
 ghost use Rattle.std.specs.String.{string_bytes};
 ghost use Rattle.teco_debugger.specs.declared.reading.FileFault.TheVariants.{Unread};
-ghost use Rattle.teco_debugger.specs.Ending.{TellsEnding, caret_words, ending_line, fault_words, input_name, status_of_ending, string_name, told_line};
+ghost use Rattle.teco_debugger.specs.Ending.{TellsEnding, caret_words, ending_line, fault_words, input_name, string_name, status_of_ending, told_line};
 
 use crate::line::{DebuggerLine, Origin};
 use crate::reading::FileFault;
@@ -20,12 +20,12 @@ pub const NO_MEMORY: &[u8] = b"teco-debug: no memory\n";
 pub enum Ending {
     /// By `quit`, or at the end of the commands.
     Done,
-    /// The file of the command string is not had.
-    NoText(FileFault),
+    /// The file of this number is not had, of those that the string comes from.
+    NoText(usize, FileFault),
     /// The file of the input is not had.
     NoInput(FileFault),
-    /// At this spot of the source a caret stands before what it cannot stand before.
-    Caret(Spot),
+    /// At this spot of the source of this number a caret stands before what it cannot stand before.
+    Caret(usize, Spot),
     NoMemory,
     /// The commands cannot be read.
     ReadFault,
@@ -43,13 +43,16 @@ impl From<NoMemory> for Ending {
     }
 }
 
-/// What the string is called: by its file's name, or by what its word is.
-fn string_name(line: &DebuggerLine) -> &str
-    ensures { result.now ≡ string_name line.now.origin }
+/// What the source of this number is called: by its file's name, or by the option that gives it.
+fn string_name(line: &DebuggerLine, number: usize) -> &str
+    ensures { result.now ≡ string_name line.now.origin number }
 {
     match &line.origin {
-        Origin::Word(_) => "strings",
-        Origin::File(name) | Origin::Bytes(name) => name.as_str(),
+        Origin::Sources(names, _) => match names.get(number) {
+            Some(name) => name.as_str(),
+            None => "--execute",
+        },
+        Origin::Bytes(name) => name.as_str(),
     }
 }
 
@@ -103,9 +106,9 @@ fn line_of(alloc: Global, line: &DebuggerLine, ending: Ending) -> Result<String,
 {
     match ending {
         Ending::Done => Ok(String::new(alloc)),
-        Ending::NoText(fault) => told_fault(alloc, string_name(line), fault),
+        Ending::NoText(number, fault) => told_fault(alloc, string_name(line, number), fault),
         Ending::NoInput(fault) => told_fault(alloc, input_name(line), fault),
-        Ending::Caret(spot) => told_caret(alloc, string_name(line), spot),
+        Ending::Caret(number, spot) => told_caret(alloc, string_name(line, number), spot),
         Ending::NoMemory => told(alloc, "", "no memory"),
         Ending::ReadFault => told(alloc, "", "cannot read commands"),
         Ending::ShowFault => told(alloc, "", "cannot show"),
@@ -118,7 +121,7 @@ fn status(ending: Ending) -> u8
 {
     match ending {
         Ending::Done => 0,
-        Ending::Caret(_) => 3,
+        Ending::Caret(..) => 3,
         _ => 1,
     }
 }

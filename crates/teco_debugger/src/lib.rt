@@ -1,6 +1,7 @@
 //! The debugger: its commands, and walks over the steps of a command string, forward and back.
 #![tactic(auto)]
 
+mod arguments;
 mod command;
 mod debugger;
 mod ending;
@@ -26,7 +27,7 @@ pub(crate) use command::{CommandFault, DebuggerCommand};
 pub use line::DebuggerLine;
 pub(crate) use part::Part;
 pub use running::program;
-pub(crate) use sources::SourceText;
+pub(crate) use sources::{Shown, SourceText};
 pub use typing::is_typed;
 pub(crate) use verb::{Counted, Plain, VERBS, VerbRow};
 pub(crate) use walk::{Seen, Walk};

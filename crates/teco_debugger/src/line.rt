@@ -1,15 +1,14 @@
 //! The program's command line.
-ghost use Rattle.clap.specs.Words.{first_of, found_of, one_of, rows_of};
+ghost use Rattle.clap.specs.Words.{found_of, one_of, rows_of};
 ghost use Rattle.std.specs.Prelude.{◌≡◌, ◌≤◌, IfErr, IfOk, codes, map, option_map};
 ghost use Rattle.std.specs.String.{string_bytes};
 ghost use Rattle.teco_cli.specs.OptionTable.{rule_by};
-ghost use Rattle.teco_debugger.specs.CommandLine.{IsFaultSaid, IsLimit, IsMisgiven, IsOrigin, IsReadFault, LineHas, WordsSay, WordsSayNone, debug_rules};
+ghost use Rattle.teco_debugger.specs.CommandLine.{IsToldFaulty, IsLimit, IsMisgiven, IsOrigin, LacksLine, LineHas, WordsSay, WordsSayNone, debug_rules};
 
+use crate::arguments::{Texts, texts_in};
 use clap::ArgMatches;
 use std::alloc::Global;
-use teco_cli::{
-    CommandLine, LineFault, MOST_STEPS, OptionRow, Program, Takes, faulty, parsed, text_at,
-};
+use teco_cli::{CommandLine, LineFault, MOST_STEPS, OptionRow, Program, Takes, faulty, parsed};
 use teco_core::NoMemory;
 
 /// The steps that the string is given if the line says nothing.
@@ -21,17 +20,15 @@ const USAGE: &str = "teco-debug [OPTIONS] [INPUT]";
 /// What is told of a line that gives no command string.
 const NONE: &str = "one of '--execute <STRINGS>', '--file <FILE>' and '--bytes <FILE>' is needed";
 
-/// What is told of a line that gives more than one.
+/// What is told of one that gives it as sources and as bytes.
 const MANY: &str =
-    "only one of '--execute <STRINGS>', '--file <FILE>' and '--bytes <FILE>' can be used";
+    "the argument '--bytes <FILE>' cannot be used with '--file <FILE>' or '--execute <STRINGS>'";
 
 /// Where the command string comes from.
 #[derive(Drop)]
 pub enum Origin {
-    /// A word of the line, which is a source.
-    Word(String),
-    /// The file of this name, which is a source.
-    File(String),
+    /// The sources that are in the files of these names, in their order, and then the source that is a word of the line.
+    Sources(Vec<String>, Option<String>),
     /// The file of this name, as it is.
     Bytes(String),
 }
@@ -67,9 +64,9 @@ static ARGUMENTS: [OptionRow; 5] = [
     OptionRow {
         name: "file",
         short: Some('f'),
-        takes: Takes::Text,
+        takes: Takes::Texts,
         value: "FILE",
-        help: "A file of the same kind",
+        help: "A file of the same kind; several are joined, with STRINGS as the last",
     },
     OptionRow {
         name: "bytes",
@@ -110,7 +107,7 @@ fn arguments() -> &'static [OptionRow]
 
 /// The fault of a line that is faulty, and why; or that memory was refused to tell it.
 fn faulty_line(alloc: Global, why: &str) -> LineFault
-    ensures { IsFaultSaid why.now result }
+    ensures { IsToldFaulty why.now result }
 {
     match faulty(alloc, why, USAGE) {
         Ok(refusal) => LineFault::Refused(refusal),
@@ -118,26 +115,22 @@ fn faulty_line(alloc: Global, why: &str) -> LineFault
     }
 }
 
-/// Where the string comes from, by the texts that are given. A line has to give it once.
+/// Where the string comes from, by the texts that are given: sources, or the bytes of a file.
 fn origin_of(
     alloc: Global,
     word: Option<String>,
-    file: Option<String>,
+    files: Vec<String>,
     bytes: Option<String>,
 ) -> Result<Origin, LineFault>
-    ensures origin { IfOk result (IsOrigin (option_map string_bytes word) (option_map string_bytes file) (option_map string_bytes bytes)) }
-    ensures refused { IfErr result (IsMisgiven (option_map string_bytes word) (option_map string_bytes file) (option_map string_bytes bytes)) }
+    ensures origin { IfOk result (IsOrigin (option_map string_bytes word) (map string_bytes files.items) (option_map string_bytes bytes)) }
+    ensures refused { IfErr result (IsMisgiven (option_map string_bytes word) (map string_bytes files.items) (option_map string_bytes bytes)) }
 {
-    let is_many = (word.is_some() && (file.is_some() || bytes.is_some()))
-        || (file.is_some() && bytes.is_some());
-    if is_many {
-        return Err(faulty_line(alloc, MANY));
-    }
-    match (word, file, bytes) {
-        (Some(word), _, _) => Ok(Origin::Word(word)),
-        (None, Some(name), _) => Ok(Origin::File(name)),
-        (None, None, Some(name)) => Ok(Origin::Bytes(name)),
-        (None, None, None) => Err(faulty_line(alloc, NONE)),
+    let has_sources = word.is_some() || !files.is_empty();
+    match (has_sources, bytes) {
+        (true, None) => Ok(Origin::Sources(files, word)),
+        (false, Some(name)) => Ok(Origin::Bytes(name)),
+        (true, Some(_)) => Err(faulty_line(alloc, MANY)),
+        (false, None) => Err(faulty_line(alloc, NONE)),
     }
 }
 
@@ -152,44 +145,16 @@ fn limit_at(matches: &ArgMatches) -> u64
         .min(MOST_STEPS)
 }
 
-/// The texts that a parse gives.
-#[derive(Drop)]
-struct Texts {
-    word: Option<String>,
-    file: Option<String>,
-    bytes: Option<String>,
-    input: Option<String>,
-}
-
-/// The texts that a parse gives.
-fn texts_in<'a>(alloc: Global, matches: &ArgMatches<'a>) -> Result<Texts, NoMemory>
-    ensures word { IfOk result (λ t. first_of (codes "execute") (rows_of (found_of matches.now)) ≡ option_map string_bytes t.word) }
-    ensures file { IfOk result (λ t. first_of (codes "file") (rows_of (found_of matches.now)) ≡ option_map string_bytes t.file) }
-    ensures bytes { IfOk result (λ t. first_of (codes "bytes") (rows_of (found_of matches.now)) ≡ option_map string_bytes t.bytes) }
-    ensures input { IfOk result (λ t. first_of (codes "input") (rows_of (found_of matches.now)) ≡ option_map string_bytes t.input) }
-{
-    let word = text_at(alloc, matches, "execute")?;
-    let file = text_at(alloc, matches, "file")?;
-    let bytes = text_at(alloc, matches, "bytes")?;
-    let input = text_at(alloc, matches, "input")?;
-    Ok(Texts {
-        word,
-        file,
-        bytes,
-        input,
-    })
-}
-
 /// The line with these texts and this limit.
 fn line_with(alloc: Global, texts: Texts, limit: u64) -> Result<DebuggerLine, LineFault>
     ensures limit { IfOk result (λ line. line.limit ≡ limit) }
-    ensures origin { IfOk result (λ line. IsOrigin (option_map string_bytes texts.word) (option_map string_bytes texts.file)
+    ensures origin { IfOk result (λ line. IsOrigin (option_map string_bytes texts.word) (map string_bytes texts.files.items)
         (option_map string_bytes texts.bytes) line.origin) }
     ensures input { IfOk result (λ line. line.input ≡ texts.input) }
-    ensures refused { IfErr result (IsMisgiven (option_map string_bytes texts.word) (option_map string_bytes texts.file)
+    ensures refused { IfErr result (IsMisgiven (option_map string_bytes texts.word) (map string_bytes texts.files.items)
         (option_map string_bytes texts.bytes)) }
 {
-    match origin_of(alloc, texts.word, texts.file, texts.bytes) {
+    match origin_of(alloc, texts.word, texts.files, texts.bytes) {
         Ok(origin) => Ok(DebuggerLine {
             limit,
             origin,
@@ -203,7 +168,7 @@ fn line_with(alloc: Global, texts: Texts, limit: u64) -> Result<DebuggerLine, Li
 fn line_in<'a>(alloc: Global, matches: &ArgMatches<'a>) -> Result<DebuggerLine, LineFault>
     ensures line { IfOk result (LineHas (rows_of (found_of matches.now))) }
     ensures range { IfOk result (λ line. line.limit ≤ 1000000000000) }
-    ensures refused { IfErr result (IsReadFault (rows_of (found_of matches.now))) }
+    ensures refused { IfErr result (LacksLine (rows_of (found_of matches.now))) }
 {
     match texts_in(alloc, matches) {
         Ok(texts) => line_with(alloc, texts, limit_at(matches)),

@@ -1,12 +1,11 @@
 //! Reading files.
-ghost use Rattle.std.specs.Prelude.{◌≡◌, ◌≤◌, IfErr, IfOk, Ok, vec_len, map};
+ghost use Rattle.std.specs.Prelude.{◌≡◌, ◌≤◌, ◌++◌, ◌∷◌, [], IfErr, IfOk, OnOk, Ok, vec_len, map};
 ghost use Rattle.teco_core.specs.declared.limits.TheConstants.{FILE_LIMIT};
 ghost use Rattle.teco_fs.specs.Reading.{IsInput};
 ghost use Rattle.teco_fs.specs.Reasons.{ComesTo};
 ghost use Rattle.teco_debugger.specs.declared.reading.FileFault.TheVariants as file;
 ghost use Rattle.teco_fs.specs.Seen.{KeepsDisk, disk_seen};
-ghost use Rattle.teco_debugger.specs.Reading.{IsGivenBy, IsNotRead, IsUnreadable};
-ghost use Rattle.teco_source.specs.Places.{places_of};
+ghost use Rattle.teco_debugger.specs.Reading.{AddsSource, IsNotRead, IsShownFrom, IsUnreadable};
 ghost use Rattle.teco_source.specs.Source.{commands_of};
 ghost use Rattle.teco_debugger.specs.Spelling.{escaped};
 
@@ -82,51 +81,87 @@ fn escaped(byte: u8) -> u8
     if byte == b'$' { ESC } else { byte }
 }
 
-/// A command string, and the source that it was read from, if it is one.
-#[derive(Drop)]
-pub struct Given {
-    pub text: Vec<u8>,
-    pub source: Option<SourceText>,
-}
-
-/// The bytes that a source stands for.
-fn commands_in(alloc: Global, source: &[u8]) -> Result<Vec<u8>, Ending>
-    ensures read { IfOk result (λ text. commands_of source.now ≡ Ok text.items) }
-    ensures fault { IfErr result (IsUnreadable source.now) }
-{
-    match commands(alloc, source) {
-        Ok(text) => Ok(text),
-        Err(ReaderFault::Memory) => Err(Ending::NoMemory),
-        Err(ReaderFault::Caret(place)) => Err(Ending::Caret(spot_of(source, place))),
-    }
-}
-
-/// A source as it is shown.
-fn source_text(alloc: Global, source: &[u8]) -> Result<SourceText, NoMemory>
-    ensures text { IfOk result (λ shown. shown.text.items ≡ map escaped source.now) }
-    ensures places { IfOk result (λ shown. shown.places.items ≡ places_of source.now) }
-{
-    let text = with_escapes(alloc, source)?;
-    let places = beginnings(alloc, source)?;
-    Ok(SourceText { text, places })
-}
-
-/// The command string of a source.
-pub fn given_by(alloc: Global, source: &[u8]) -> Result<Given, Ending>
-    ensures given { IfOk result (IsGivenBy source.now) }
-    ensures fault { IfErr result (IsUnreadable source.now) }
-{
-    let text = commands_in(alloc, source)?;
-    let shown = source_text(alloc, source)?;
-    Ok(Given {
-        text,
-        source: Some(shown),
-    })
-}
-
 /// The source with each dollar sign made ESC.
 fn with_escapes(alloc: Global, text: &[u8]) -> Result<Vec<u8>, NoMemory>
     ensures { IfOk result (λ string. string.items ≡ map escaped text.now) }
 {
     text.iter().copied().map(escaped).collect(alloc)
+}
+
+/// The bytes that the source of this number stands for.
+fn commands_in(alloc: Global, number: usize, source: &[u8]) -> Result<Vec<u8>, Ending>
+    ensures read { IfOk result (λ text. commands_of source.now ≡ Ok text.items) }
+    ensures fault { IfErr result (IsUnreadable number source.now) }
+{
+    match commands(alloc, source) {
+        Ok(text) => Ok(text),
+        Err(ReaderFault::Memory) => Err(Ending::NoMemory),
+        Err(ReaderFault::Caret(place)) => Err(Ending::Caret(number, spot_of(source, place))),
+    }
+}
+
+/// A source of this name as it is shown, whose bytes of the string come after so many.
+fn source_text(
+    alloc: Global,
+    name: &str,
+    from: usize,
+    source: &[u8],
+) -> Result<SourceText, NoMemory>
+    ensures { IfOk result (IsShownFrom name.now from source.now) }
+{
+    let text = with_escapes(alloc, source)?;
+    let places = beginnings(alloc, source)?;
+    Ok(SourceText {
+        name: String::from_str(alloc, name)?,
+        from,
+        text,
+        places,
+    })
+}
+
+/// A command string, and the sources that it was read from.
+#[derive(Drop)]
+pub struct Given {
+    pub text: Vec<u8>,
+    pub sources: Vec<SourceText>,
+}
+
+impl Given {
+    /// No command string yet.
+    pub fn new(alloc: Global) -> Given
+        ensures text { result.text.items ≡ [] }
+        ensures sources { result.sources.items ≡ [] }
+    {
+        Given {
+            text: Vec::new(alloc),
+            sources: Vec::new(alloc),
+        }
+    }
+
+    /// Puts commands and their source behind the others.
+    fn push(&mut self, commands: &[u8], shown: SourceText) -> Result<(), NoMemory>
+        ensures text { OnOk result (self.new.text.items ≡ self.old.text.items ++ commands.now) }
+        ensures sources { OnOk result (self.new.sources.items ≡ self.old.sources.items ++ shown ∷ []) }
+    {
+        self.text.extend_from_slice(commands)?;
+        self.sources.push(shown)?;
+        Ok(())
+    }
+
+    /// Puts the commands of a source behind the others. It has this number and name.
+    pub fn add(
+        &mut self,
+        alloc: Global,
+        number: usize,
+        name: &str,
+        source: &[u8],
+    ) -> Result<(), Ending>
+        ensures adds { OnOk result (AddsSource name.now source.now self.old self.new) }
+        ensures fault { IfErr result (IsUnreadable number source.now) }
+    {
+        let commands = commands_in(alloc, number, source)?;
+        let shown = source_text(alloc, name, self.text.len(), source)?;
+        self.push(commands.as_slice(), shown)?;
+        Ok(())
+    }
 }

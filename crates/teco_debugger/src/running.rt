@@ -1,16 +1,18 @@
 //! A run, from the words of its command line to its status.
-ghost use Rattle.std.specs.Prelude.{◌≡◌, ◌≤◌, IfErr, IfOk, vec_len};
+ghost use Rattle.std.specs.Prelude.{◌≡◌, ◌≤◌, IfErr, IfOk, OnOk, option_map, vec_len};
 ghost use Rattle.std.specs.Process.{exit_status};
+ghost use Rattle.std.specs.String.{string_bytes};
 ghost use Rattle.teco_core.specs.declared.limits.TheConstants.{FILE_LIMIT};
+ghost use Rattle.teco_fs.specs.Reading.{IsInput};
 ghost use Rattle.teco_fs.specs.Seen.{KeepsDisk, host, disk_seen};
 ghost use Rattle.teco_debugger.specs.Program.{HasNoFiles, RetracesBy, ServesFiles, retrace_view};
-ghost use Rattle.teco_debugger.specs.Reading.{CannotRead, IsFromFile, IsInputOf, IsOfBytes, IsStringOf, LacksBytes, LacksFile};
+ghost use Rattle.teco_debugger.specs.Reading.{AddsFiles, AddsWord, CannotRead, IsInputOf, IsOfBytes, IsOfSources, IsStringOf, LacksEach, LacksFile, LacksSources, LacksString, LacksWord};
 
 use crate::Walk;
 use crate::debugger::Debugger;
 use crate::ending::{Ending, NO_MEMORY, conclude};
 use crate::line::{DebuggerLine, Origin};
-use crate::reading::{Given, given_by, read_file};
+use crate::reading::{Given, read_file};
 use crate::serving::serve;
 use std::alloc::Global;
 use std::io::BufRead;
@@ -20,45 +22,105 @@ use teco_core::NoMemory;
 use teco_fs::{Disk, refuse};
 use teco_io::Terminal;
 
-/// The command string of the source in a file.
-fn string_in_file<D: Disk>(alloc: Global, name: &str, disk: &mut D) -> Result<Given, Ending>
-    ensures string { IfOk result (λ given. IsFromFile (D.seen disk.old).files name.now given.text.items given.source) }
-    ensures lacks { let seen = disk_seen D.Disk D.Input.Source in
-        IfErr result (LacksFile (D.seen disk.old).files (seen disk.new) name.now) }
+/// The bytes of a source in a file, which has this number.
+fn source_in<D: Disk>(
+    alloc: Global,
+    number: usize,
+    name: &str,
+    disk: &mut D,
+) -> Result<Vec<u8>, Ending>
+    ensures source { IfOk result (λ source. IsInput (D.seen disk.old).files name.now source.items) }
+    ensures unread { let seen = disk_seen D.Disk D.Input.Source in
+        IfErr result (LacksFile (D.seen disk.old).files (seen disk.new) number name.now) }
     ensures keeps { let seen = disk_seen D.Disk D.Input.Source in
         KeepsDisk (seen disk.old) (seen disk.new) }
 {
     match read_file(alloc, name, disk) {
-        Err(fault) => Err(Ending::NoText(fault)),
-        Ok(source) => given_by(alloc, source.as_slice()),
+        Err(fault) => Err(Ending::NoText(number, fault)),
+        Ok(source) => Ok(source),
     }
+}
+
+/// Puts the commands of the sources in these files behind the others, in their order.
+fn add_files<D: Disk>(
+    alloc: Global,
+    given: &mut Given,
+    names: &[String],
+    disk: &mut D,
+) -> Result<(), Ending>
+    ensures adds { OnOk result (AddsFiles (D.seen disk.old).files names.now given.old given.new) }
+    ensures lacks { let seen = disk_seen D.Disk D.Input.Source in
+        IfErr result (LacksEach (D.seen disk.old).files (seen disk.new) names.now) }
+    ensures keeps { let seen = disk_seen D.Disk D.Input.Source in
+        KeepsDisk (seen disk.old) (seen disk.new) }
+{
+    for (number, name) in names.iter().enumerate() {
+        let source = source_in(alloc, number, name.as_str(), disk)?;
+        given.add(alloc, number, name.as_str(), source.as_slice())?;
+    }
+    Ok(())
+}
+
+/// Puts the commands of the source in a word behind the others, if there is one. It has this number.
+fn add_word(
+    alloc: Global,
+    given: &mut Given,
+    number: usize,
+    word: &Option<String>,
+) -> Result<(), Ending>
+    ensures adds { OnOk result (AddsWord (option_map string_bytes word.now) given.old given.new) }
+    ensures lacks { IfErr result (LacksWord number (option_map string_bytes word.now)) }
+{
+    match word {
+        None => Ok(()),
+        Some(word) => given.add(alloc, number, "--execute", word.as_bytes()),
+    }
+}
+
+/// The command string of the sources in these files, and in a word.
+fn string_of_sources<D: Disk>(
+    alloc: Global,
+    names: &[String],
+    word: &Option<String>,
+    disk: &mut D,
+) -> Result<Given, Ending>
+    ensures string { IfOk result (IsOfSources (D.seen disk.old).files names.now (option_map string_bytes word.now)) }
+    ensures lacks { let seen = disk_seen D.Disk D.Input.Source in
+        IfErr result (LacksSources (D.seen disk.old).files (seen disk.new) names.now (option_map string_bytes word.now)) }
+    ensures keeps { let seen = disk_seen D.Disk D.Input.Source in
+        KeepsDisk (seen disk.old) (seen disk.new) }
+{
+    let mut given = Given::new(alloc);
+    add_files(alloc, &mut given, names, disk)?;
+    add_word(alloc, &mut given, names.len(), word)?;
+    Ok(given)
 }
 
 /// The bytes of a file as a command string.
 fn string_of_bytes<D: Disk>(alloc: Global, name: &str, disk: &mut D) -> Result<Given, Ending>
-    ensures string { IfOk result (λ given. IsOfBytes (D.seen disk.old).files name.now given.text.items given.source) }
+    ensures string { IfOk result (IsOfBytes (D.seen disk.old).files name.now) }
     ensures lacks { let seen = disk_seen D.Disk D.Input.Source in
-        IfErr result (LacksBytes (D.seen disk.old).files (seen disk.new) name.now) }
+        IfErr result (LacksFile (D.seen disk.old).files (seen disk.new) 0 name.now) }
     ensures keeps { let seen = disk_seen D.Disk D.Input.Source in
         KeepsDisk (seen disk.old) (seen disk.new) }
 {
-    match read_file(alloc, name, disk) {
-        Err(fault) => Err(Ending::NoText(fault)),
-        Ok(text) => Ok(Given { text, source: None }),
-    }
+    let text = source_in(alloc, 0, name, disk)?;
+    Ok(Given {
+        text,
+        sources: Vec::new(alloc),
+    })
 }
 
 /// The command string of the line.
 fn string_of<D: Disk>(alloc: Global, line: &DebuggerLine, disk: &mut D) -> Result<Given, Ending>
-    ensures string { IfOk result (λ given. IsStringOf (D.seen disk.old).files line.now.origin given.text.items given.source) }
+    ensures string { IfOk result (IsStringOf (D.seen disk.old).files line.now.origin) }
     ensures lacks { let seen = disk_seen D.Disk D.Input.Source in
-        IfErr result (CannotRead (D.seen disk.old).files (seen disk.new) line.now) }
+        IfErr result (LacksString (D.seen disk.old).files (seen disk.new) line.now.origin) }
     ensures keeps { let seen = disk_seen D.Disk D.Input.Source in
         KeepsDisk (seen disk.old) (seen disk.new) }
 {
     match &line.origin {
-        Origin::Word(strings) => given_by(alloc, strings.as_bytes()),
-        Origin::File(name) => string_in_file(alloc, name.as_str(), disk),
+        Origin::Sources(names, word) => string_of_sources(alloc, names, word, disk),
         Origin::Bytes(name) => string_of_bytes(alloc, name.as_str(), disk),
     }
 }
@@ -99,7 +161,7 @@ fn retrace<C: BufRead, T: Terminal, D: Disk>(
 {
     let given = string_of(alloc, line, disk)?;
     let input = input_of(alloc, line, disk)?;
-    let mut debugger = Debugger::new(Walk::new(input, given.text)?, line.limit, given.source);
+    let mut debugger = Debugger::new(Walk::new(input, given.text)?, line.limit, given.sources);
     Ok(serve(alloc, &mut debugger, prompts, commands, term))
 }
 

@@ -1,35 +1,45 @@
 //! The commands, served over a walk.
 ghost use Rattle.std.specs.Prelude.{◌≡◌, ◌⊎◌, OnErr, OnOk};
 ghost use Rattle.teco_debugger.specs.Commands.{is_leaving, command_of};
-ghost use Rattle.teco_debugger.specs.Serving.{Asks, AsksAndServes, EndsUnread, FailsToAsk, Obeys, ServesLines, ServesNext, stage};
+ghost use Rattle.teco_debugger.specs.Serving.{AsksAndServes, EndsStar, EndsUnread, StopsShowing, Obeys, ServesLines, ServesNext, ShowsIf, stage};
 
 use crate::debugger::Debugger;
 use crate::ending::Ending;
-use crate::{DebuggerCommand, Plain};
+use crate::{DebuggerCommand, Plain, SourceText};
 use std::alloc::Global;
 use std::io::BufRead;
 use teco_core::NoMemory;
 use teco_io::{Terminal, TerminalFault};
 
 /// Whether a line asks to leave.
-fn is_leaving(line: &[u8]) -> bool
-    ensures { result ≡ is_leaving (command_of line.now) }
+fn is_leaving(sources: &[SourceText], line: &[u8]) -> bool
+    ensures { result ≡ is_leaving (command_of sources.now line.now) }
 {
     matches!(
-        DebuggerCommand::of(line),
+        DebuggerCommand::of(sources, line),
         Ok(DebuggerCommand::Plain(Plain::Quit))
     )
 }
 
-/// Shows a star, if commands are typed at a terminal.
-fn ask<T: Terminal>(prompts: bool, term: &mut T) -> Result<(), TerminalFault>
-    ensures ok { OnOk result (Asks prompts (T.screen term.old) (T.screen term.new)) }
-    ensures err { OnErr result (FailsToAsk (T.screen term.old) (T.screen term.new)) }
+/// Shows these bytes, if commands are typed at a terminal.
+fn show_if<T: Terminal>(prompts: bool, bytes: &[u8], term: &mut T) -> Result<(), TerminalFault>
+    ensures ok { OnOk result (ShowsIf prompts bytes.now (T.screen term.old) (T.screen term.new)) }
+    ensures err { OnErr result (StopsShowing bytes.now (T.screen term.old) (T.screen term.new)) }
 {
     if !prompts {
         return Ok(());
     }
-    term.put(b"* ")
+    term.put(bytes)
+}
+
+/// Ends the line of a star, if one is shown; says how the serving ends.
+fn end_star<T: Terminal>(prompts: bool, term: &mut T) -> Ending
+    ensures { EndsStar prompts result (T.screen term.old) (T.screen term.new) }
+{
+    match show_if(prompts, b"\n", term) {
+        Ok(()) => Ending::Done,
+        Err(TerminalFault) => Ending::ShowFault,
+    }
 }
 
 /// Answers a line, unless it asks to leave; says how the serving ends, if it does.
@@ -41,7 +51,7 @@ fn obey<T: Terminal>(
 ) -> Option<Ending>
     ensures { Obeys line.now result debugger.old debugger.new (T.screen term.old) (T.screen term.new) }
 {
-    if is_leaving(line) {
+    if is_leaving(debugger.sources(), line) {
         return Some(Ending::Done);
     }
     match debugger.answer_to(alloc, line) {
@@ -57,16 +67,17 @@ fn obey<T: Terminal>(
 fn read_line<C: BufRead, T: Terminal>(
     alloc: Global,
     debugger: &mut Debugger,
+    prompts: bool,
     commands: &mut C,
     term: &mut T,
 ) -> Option<Ending>
     ensures { let old = stage (C.remaining commands.old) debugger.old (T.screen term.old) in
         let new = stage (C.remaining commands.new) debugger.new (T.screen term.new) in
-        ServesNext result old new ⊎ EndsUnread result old new }
+        ServesNext result old new ⊎ EndsUnread prompts result old new }
 {
     let mut line = Vec::new(alloc);
     match commands.read_until(b'\n', &mut line) {
-        Ok(0) => Some(Ending::Done),
+        Ok(0) => Some(end_star(prompts, term)),
         Ok(_) => obey(alloc, debugger, line.as_slice(), term),
         Err(_) => Some(Ending::ReadFault),
     }
@@ -84,8 +95,8 @@ fn serve_line<C: BufRead, T: Terminal>(
         let new = stage (C.remaining commands.new) debugger.new (T.screen term.new) in
         AsksAndServes prompts result old new }
 {
-    match ask(prompts, term) {
-        Ok(()) => read_line(alloc, debugger, commands, term),
+    match show_if(prompts, b"* ", term) {
+        Ok(()) => read_line(alloc, debugger, prompts, commands, term),
         Err(TerminalFault) => Some(Ending::ShowFault),
     }
 }

@@ -1,7 +1,7 @@
 //! Where a walk stands, shown.
 ghost use Rattle.std.specs.Prelude.{◌≡◌, ◌++◌, ◌≤◌, ◌<◌, IfOk, OnOk, Some, length, option_copied, replicate, slice_get};
 ghost use Rattle.std.specs.String.{string_bytes};
-ghost use Rattle.teco_debugger.specs.Showing.{call_line, call_lines, code_there, each_turn_shown, here_shown, innermost, line_shown, line_there, lines_there, mark_shown, place_there, step_shown, turn_shown, turns_of_call, turns_shown, where_shown};
+ghost use Rattle.teco_debugger.specs.Showing.{call_line, call_lines, code_there, each_turn_shown, here_shown, innermost, line_shown, line_there, lines_there, mark_shown, name_there, place_there, step_shown, turn_shown, turns_of_call, turns_shown, where_shown};
 ghost use Rattle.teco_messages.specs.Spelling.{spelled};
 
 use crate::{Seen, Walk};
@@ -57,12 +57,33 @@ fn show_code_there(out: &mut String, code: Option<Code>) -> Result<(), NoMemory>
     }
 }
 
+/// Shows the name of a source, if there is one and a place in it.
+fn show_name(out: &mut String, name: &str, place: Option<&Place>) -> Result<(), NoMemory>
+    ensures { OnOk result (string_bytes out.new
+        ≡ string_bytes out.old ++ name_there name.now (option_copied place.entry)) }
+{
+    match place {
+        Some(place) if !name.is_empty() => {
+            out.push_str(name)?;
+            out.push_str(if place.calls.is_empty() { ":" } else { ", " })
+        }
+        _ => Ok(()),
+    }
+}
+
 /// Shows the step, the place and the token, in a line.
-pub fn show_step(out: &mut String, walk: &Walk, string: &[u8], seen: &Seen) -> Result<(), NoMemory>
-    ensures { OnOk result (string_bytes out.new ≡ string_bytes out.old ++ step_shown walk.now string.now seen.now) }
+pub fn show_step(
+    out: &mut String,
+    walk: &Walk,
+    name: &str,
+    string: &[u8],
+    seen: &Seen,
+) -> Result<(), NoMemory>
+    ensures { OnOk result (string_bytes out.new ≡ string_bytes out.old ++ step_shown walk.now name.now string.now seen.now) }
 {
     let steps = walk.steps();
     write!(out, "step {steps}, ")?;
+    show_name(out, name, seen.place.as_ref())?;
     show_standing(out, walk, string, seen.place.as_ref())?;
     show_code_there(out, seen.outcome.code)?;
     out.push_str("\n")
@@ -219,10 +240,16 @@ fn show_lines(out: &mut String, walk: &Walk, string: &[u8], place: &Place) -> Re
 }
 
 /// Shows where a walk stands: the step, the line with its token marked, the open calls and iterations.
-pub fn show_where(out: &mut String, walk: &Walk, string: &[u8], seen: &Seen) -> Result<(), NoMemory>
-    ensures { OnOk result (string_bytes out.new ≡ string_bytes out.old ++ where_shown walk.now string.now seen.now) }
+pub fn show_where(
+    out: &mut String,
+    walk: &Walk,
+    name: &str,
+    string: &[u8],
+    seen: &Seen,
+) -> Result<(), NoMemory>
+    ensures { OnOk result (string_bytes out.new ≡ string_bytes out.old ++ where_shown walk.now name.now string.now seen.now) }
 {
-    show_step(out, walk, string, seen)?;
+    show_step(out, walk, name, string, seen)?;
     match &seen.place {
         Some(place) => show_lines(out, walk, string, place),
         None => Ok(()),

@@ -1,28 +1,83 @@
-//! A command string that was read from a source, and what is shown of its places.
-ghost use Rattle.std.specs.Prelude.{◌≡◌, ◌∷◌, ℕ, IfOk};
-ghost use Rattle.teco_debugger.specs.Sources.{IsShownAt, IsShownPlace, IsShownSeen, shown_place, shown_string};
+//! The sources of a command string, and what is shown of its places.
+ghost use Rattle.std.specs.Prelude.{◌≡◌, ◌∷◌, ℕ, IfOk, option_copied, slice_get};
+ghost use Rattle.teco_debugger.specs.Sources.{IsShownAt, IsShownPlace, IsShownSeen, number_at, number_of_place, outermost_place, shown_name, shown_place, shown_string};
 ghost use Rattle.teco_debugger.specs.Walk.{meant};
 
 use crate::{Seen, Walk};
 use teco_core::NoMemory;
 use teco_exec::Place;
 
-/// A source, as it is shown.
+/// A source of the command string, as it is shown.
 #[derive(Drop)]
 pub struct SourceText {
+    /// Its file's name, or the option that gives it.
+    pub name: String,
+    /// How many bytes of the string are before its own.
+    pub from: usize,
     /// Its bytes, with each dollar sign made ESC.
     pub text: Vec<u8>,
-    /// For each byte of the string the place at which it begins there.
+    /// For each of its bytes of the string the place at which that begins in the source.
     pub places: Vec<usize>,
 }
 
-/// The string as it is shown.
-pub fn shown_string<'a>(source: &'a Option<SourceText>, text: &'a [u8]) -> &'a [u8]
-    ensures { result.now ≡ shown_string source.now text.now }
+/// What a run shows, with its place in the source that has it.
+#[derive(Drop)]
+pub struct Shown {
+    pub seen: Seen,
+    /// The number of that source, from 0 on.
+    pub number: usize,
+}
+
+/// The string as it is shown: the source of this number, or the string itself.
+pub fn shown_string<'a>(sources: &'a [SourceText], number: usize, text: &'a [u8]) -> &'a [u8]
+    ensures { result.now ≡ shown_string sources.now number text.now }
 {
-    match source {
+    match sources.get(number) {
         Some(source) => source.text.as_slice(),
         None => text,
+    }
+}
+
+/// The name of the source of this number, if there are several.
+pub fn shown_name(sources: &[SourceText], number: usize) -> &str
+    ensures { result.now ≡ shown_name sources.now number }
+{
+    if sources.len() > 1 && number < sources.len() {
+        return sources[number].name.as_str();
+    }
+    ""
+}
+
+/// The number of the source that has a place of the string.
+fn number_at(sources: &[SourceText], at: usize) -> usize
+    ensures { result ≡ number_at sources.now at }
+{
+    let mut begun: usize = 0;
+    for source in sources {
+        if source.from <= at {
+            begun += 1;
+        }
+    }
+    begun.saturating_sub(1)
+}
+
+/// Where a run stands in the string: at its place, or at that of the outermost_place call.
+fn outermost_place(place: &Place) -> usize
+    ensures { result ≡ outermost_place place.now }
+{
+    match place.calls.last() {
+        Some(call) => call.at,
+        None => place.at,
+    }
+}
+
+/// The number of the source that has the place.
+fn number_of_place(sources: &[SourceText], place: Option<&Place>) -> usize
+    ensures { result ≡ number_of_place sources.now (option_copied place.entry) }
+{
+    match place {
+        Some(place) => number_at(sources, outermost_place(place)),
+        None => 0,
     }
 }
 
@@ -30,7 +85,7 @@ pub fn shown_string<'a>(source: &'a Option<SourceText>, text: &'a [u8]) -> &'a [
 fn shown_place(source: &SourceText, at: usize) -> usize
     ensures { result ≡ shown_place source.now at }
 {
-    match source.places.get(at) {
+    match source.places.get(at.saturating_sub(source.from)) {
         Some(place) => *place,
         None => source.text.len(),
     }
@@ -49,11 +104,11 @@ fn show_in(source: &SourceText, place: &mut Place)
     place.calls[calls - 1].at = shown_place(source, at);
 }
 
-/// The same of what a run shows, if the string has a source.
-fn show_seen(source: &Option<SourceText>, seen: &mut Seen)
-    ensures { IsShownSeen source.now seen.old seen.new }
+/// The same of what a run shows, if there is a source of this number.
+fn show_seen(sources: &[SourceText], number: usize, seen: &mut Seen)
+    ensures { IsShownSeen (slice_get sources.now number) seen.old seen.new }
 {
-    match source {
+    match sources.get(number) {
         None => {}
         Some(source) => match &mut seen.place {
             None => {}
@@ -63,12 +118,13 @@ fn show_seen(source: &Option<SourceText>, seen: &mut Seen)
 }
 
 /// What a run of the string under a limit of `n` steps shows, with its place as that is shown.
-pub fn look(walk: &Walk, source: &Option<SourceText>, n: u64) -> Result<Seen, NoMemory>
-    ensures seen { IfOk result (IsShownAt source.now walk.now n) }
-    ensures steps { IfOk result (λ seen. seen.outcome.steps ≡ (meant walk.now.input walk.now.text n).steps) }
-    ensures typed { IfOk result (λ seen. seen.typed.items ≡ (meant walk.now.input walk.now.text n).typed) }
+pub fn look(walk: &Walk, sources: &[SourceText], n: u64) -> Result<Shown, NoMemory>
+    ensures seen { IfOk result (IsShownAt sources.now walk.now n) }
+    ensures steps { IfOk result (λ shown. shown.seen.outcome.steps ≡ (meant walk.now.input walk.now.text n).steps) }
+    ensures typed { IfOk result (λ shown. shown.seen.typed.items ≡ (meant walk.now.input walk.now.text n).typed) }
 {
     let mut seen = walk.look(n)?;
-    show_seen(source, &mut seen);
-    Ok(seen)
+    let number = number_of_place(sources, seen.place.as_ref());
+    show_seen(sources, number, &mut seen);
+    Ok(Shown { seen, number })
 }

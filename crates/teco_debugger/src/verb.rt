@@ -45,8 +45,8 @@ pub(crate) enum Takes {
     Register,
     /// A register, or the word `text`.
     Part,
-    /// A line and a column.
-    Spot,
+    /// A place of the string to stop at.
+    Stop,
     /// A register, the pointer or the length of the buffer, and which way to go.
     Watch,
 }
@@ -147,9 +147,9 @@ pub const VERBS: [VerbRow; 19] = [
     VerbRow {
         word: "break",
         letter: "k",
-        takes: Takes::Spot,
-        operand: "LINE:COL",
-        help: "notes a place of the string",
+        takes: Takes::Stop,
+        operand: "PLACE",
+        help: "notes LINE, LINE:COLUMN, FILE:LINE or FILE:LINE:COLUMN",
     },
     VerbRow {
         word: "continue",

@@ -1,4 +1,4 @@
-use Rattle.std.proofs.Common.{◌≡◌, ◌∙◌, ◌+◌, ◌-◌, ◌<◌, ℕ, length, false, ap, arith, refl, rules, sym}
+use Rattle.std.proofs.Common.{◌≡◌, ◌-◌, ◌<◌, length, false, arith, refl}
 use Rattle.std.specs.Prelude.{◌==◌}
 use Rattle.teco_debugger.specs.Sources.{shown_place}
 use Rattle.teco_debugger.proofs.Shown.{at_else, last_shown, not_none, positive}

@@ -8,25 +8,25 @@ use Rattle.teco_debugger.proofs.stops.next_stop.Goals as goal
 pub returns-then-n-work-clause-none : goal.returns-then-n-work-clause-none
 returns-then-n-work-clause-none c =
     let inv = c.loop-n.invariant in
-    is_too_far c.args.source.now c.args.walk.now c.args.stop c.args.from c.args.limit c.loop-n.n c.loop-n.work inv.0 c.if-n-work.true inv.1
+    is_too_far c.args.sources.now c.args.walk.now c.args.stop c.args.from c.args.limit c.loop-n.n c.loop-n.work inv.0 c.if-n-work.true inv.1
 
 pub returns-then-is_stop-clause-found : goal.returns-then-is_stop-clause-found
 returns-then-is_stop-clause-found c =
-    let seen = c.in_ok-seen.seen in
-    let string = c.shown_string.ensures ∙ ap (shown_string c.args.source.now) c.text.ensures in
-    let here = ap (λ (t : List ℕ). is_stop t c.args.stop c.loop-n.n seen.place) (sym string) ∙ (sym c.is_stop.ensures ∙ c.if-is_stop.true) in
+    let shown = c.in_ok-shown.shown in
+    let string = c.shown_string-text.ensures ∙ ap (shown_string c.args.sources.now shown.number) c.text.ensures in
+    let here = ap (λ (t : List ℕ). is_stop t c.args.stop c.loop-n.n shown) (sym string) ∙ (sym c.is_stop.ensures ∙ c.if-is_stop.true) in
     record {
       after = c.loop-n.auto.n;
-      here = (seen, c.in_ok-seen.ensures.seen, here);
+      here = (shown, c.in_ok-shown.ensures.seen, here);
       passed = c.loop-n.invariant.1;
     }
 
 pub loop-n-preserved : goal.loop-n-preserved
 loop-n-preserved c =
     let inv = c.loop-n.invariant in
-    let seen = c.in_ok-seen.seen in
-    let string = c.shown_string.ensures ∙ ap (shown_string c.args.source.now) c.text.ensures in
-    let here = ap (λ (t : List ℕ). is_stop t c.args.stop c.loop-n.n seen.place) (sym string) ∙ (sym c.is_stop.ensures ∙ c.if-is_stop.false) in (
+    let shown = c.in_ok-shown.shown in
+    let string = c.shown_string-text.ensures ∙ ap (shown_string c.args.sources.now shown.number) c.text.ensures in
+    let here = ap (λ (t : List ℕ). is_stop t c.args.stop c.loop-n.n shown) (sym string) ∙ (sym c.is_stop.ensures ∙ c.if-is_stop.false) in (
       work_more c.loop-n.n c.loop-n.work (c.loop-n.work - c.loop-n.n) (MOST_WORK + work_below c.args.from) c.if-n-work.false inv.0 refl,
-      passes_more c.args.source.now c.args.walk.now c.args.stop c.args.from c.loop-n.n inv.1 (seen, c.in_ok-seen.ensures.seen, here),
+      passes_more c.args.sources.now c.args.walk.now c.args.stop c.args.from c.loop-n.n inv.1 (shown, c.in_ok-shown.ensures.seen, here),
     )
