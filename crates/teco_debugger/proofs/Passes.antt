@@ -2,7 +2,7 @@
 use Rattle.std.proofs.Common.{◌≡◌, ℕ, ◌+◌, ◌-◌, ◌<◌, ◌≤◌, List, false, sym, subst, arith, inl, inr, add-one}
 use Rattle.std.proofs.lemmas.Bool.{cases_lt}
 use Rattle.teco_debugger.specs.Walk.{KeptWalk, meant}
-use Rattle.teco_debugger.specs.Moving.{HasNoStop, PassesBetween, StopsOr, work_below}
+use Rattle.teco_debugger.specs.Moving.{HasNoStop, IsTooFar, PassesBetween, StopsOr, work_below}
 use Rattle.teco_debugger.specs.declared.sources.SourceText.{SourceText}
 use Rattle.teco_debugger.specs.declared.stops.Stop.{Stop}
 use Rattle.teco_debugger.specs.declared.stops.TheConstants.{MOST_WORK}
@@ -21,13 +21,13 @@ module _ (sources : List SourceText) (walk : KeptWalk) (stop : Stop) (from : ℕ
   ]
 
   -- the work that is left no longer suffices
-  pub is_too_far : (limit n work : ℕ) → work + work_below n ≡ MOST_WORK + work_below from → work < n → PassesBetween sources walk stop from n
-      → HasNoStop sources walk stop from limit
+  pub is_too_far : (n work : ℕ) → work + work_below n ≡ MOST_WORK + work_below from → work < n → PassesBetween sources walk stop from n
+      → IsTooFar sources walk stop from n
   unfolding work_below
-  is_too_far limit n work is less passed = record { to = n; passed = passed; ends = inr (inr (omega (arith, is, less))) }
+  is_too_far n work is less passed = record { passed = passed; work = omega (arith, is, less) }
 
   pub ends_before : (limit n : ℕ) → (meant walk.input walk.text n).steps < n → PassesBetween sources walk stop from n → HasNoStop sources walk stop from limit
-  ends_before limit n less passed = record { to = n; passed = passed; ends = inr (inl less) }
+  ends_before limit n less passed = record { to = n; passed = passed; ends = inr less }
 
   pub is_at_limit : (limit n : ℕ) → limit ≤ n → PassesBetween sources walk stop from n → HasNoStop sources walk stop from limit
   is_at_limit limit n over passed = record { to = n; passed = passed; ends = inl over }

@@ -13,7 +13,7 @@ use Rattle.teco_debugger.specs.Finding.{last_change}
 use Rattle.teco_debugger.specs.Walk.{KeptWalk, meant, state_there}
 use Rattle.teco_debugger.specs.Help.{help_shown}
 use Rattle.teco_debugger.specs.Listing.{lines_there_shown, registers_shown, state_shown, whole_register}
-use Rattle.teco_debugger.specs.Moving.{Arrives, HasNoStop, IsNextStop, MovesTo, SameRun, line_stop}
+use Rattle.teco_debugger.specs.Moving.{Arrives, IsFound, MovesTo, SameRun, line_stop}
 use Rattle.teco_debugger.specs.Showing.{step_at, where_at}
 use Rattle.teco_debugger.specs.Sources.{IsShownAt}
 use Rattle.teco_debugger.specs.Watching.{IsNearestOther}
@@ -24,6 +24,8 @@ use Rattle.teco_debugger.specs.declared.command.CommandFault.{CommandFault}
 use Rattle.teco_debugger.specs.declared.command.CommandFault.TheVariants.{NoCommand, NoNumber, NoRegister, NoPlace, NoSource, NoWatch, TooMuch}
 use Rattle.teco_debugger.specs.declared.part.Part.{Part}
 use Rattle.teco_debugger.specs.declared.part.Part.TheVariants as part
+use Rattle.teco_debugger.specs.declared.stops.Found.{Found}
+use Rattle.teco_debugger.specs.declared.stops.Found.TheVariants.{At, Nowhere, TooFar}
 use Rattle.teco_debugger.specs.declared.stops.Stop.{Stop}
 use Rattle.teco_debugger.specs.declared.verb.Takes.{Takes}
 use Rattle.teco_debugger.specs.declared.verb.Takes.TheVariants.{Nothing, Number, NumberOr, Register, Part as ThePart, Stop as TheStop, Watch as TheWatch}
@@ -270,12 +272,20 @@ abbrev pub GoesOrSays : Option ℕ → List ℕ → Debugger → Debugger → Li
 GoesOrSays (Some n) words old new shown = MovesTo n old new shown
 GoesOrSays None words old new shown = OnlyShows (answer_line words) old new shown
 
+-- the line that is shown if no step before this one is there, and it takes too much work to look further
+abbrev pub far_line : ℕ → List ℕ
+far_line n = codes "no step before step " ++ decimal n ++ codes " is there, and it takes too long to look further\n"
+
+-- It goes to the step that was found, or says why there is none.
+abbrev pub GoesByFound : Found → Debugger → Debugger → List ℕ → Type 0
+GoesByFound (At n) old new shown = MovesTo n old new shown
+GoesByFound Nowhere old new shown = OnlyShows (answer_line (codes "no step at that place comes")) old new shown
+GoesByFound (TooFar n) old new shown = OnlyShows (far_line n) old new shown
+
 -- It goes on to the next step that is there, if such a step comes.
 abbrev pub GoesOnTo : Stop → Debugger → Debugger → List ℕ → Type 0
 GoesOnTo stop old new shown =
-    ((n : ℕ) × IsNextStop old.sources.items old.walk stop (old.walk.steps + 1) n × MovesTo n old new shown)
-    ⊎ (HasNoStop old.sources.items old.walk stop (old.walk.steps + 1) old.limit
-    × OnlyShows (answer_line (codes "no step at that place comes, or it is too far")) old new shown)
+    (found : Found) × IsFound old.sources.items old.walk stop (old.walk.steps + 1) old.limit found × GoesByFound found old new shown
 
 -- It goes on to the next step at the place to stop at, if one is noted and such a step comes.
 abbrev pub GoesOnToStop : Option Stop → Debugger → Debugger → List ℕ → Type 0

@@ -10,6 +10,8 @@ use Rattle.teco_debugger.specs.declared.sources.SourceText.{SourceText}
 use Rattle.teco_debugger.specs.declared.sources.Shown.{Shown}
 use Rattle.teco_debugger.specs.declared.debugger.Debugger.{Debugger}
 use Rattle.teco_debugger.specs.declared.stops.Stop.{Stop}
+use Rattle.teco_debugger.specs.declared.stops.Found.{Found}
+use Rattle.teco_debugger.specs.declared.stops.Found.TheVariants.{At, Nowhere, TooFar}
 use Rattle.teco_debugger.specs.declared.stops.TheConstants.{MOST_WORK}
 
 -- The walk goes to the state after the first n steps of the string, or after all that it takes under a limit of n.
@@ -86,10 +88,19 @@ unfoldable pub work_below : ℕ → ℕ
 work_below zero = 0
 work_below (suc n) = work_below n + n
 
--- No step up to some other one is at the place to stop at, and the way ends there: at the limit, behind the last step
--- of the string, or where it takes too much work to look on.
+-- No step up to some other one is at the place to stop at, and the way ends there: at the limit, or behind the last step of the string.
 pub record HasNoStop (sources : List SourceText) (walk : KeptWalk) (stop : Stop) (from limit : ℕ) : Type 0 where
   pub to : ℕ
   pub passed : PassesBetween sources walk stop from to
-  pub ends : (limit ≤ to) ⊎ (((meant walk.input walk.text to).steps < to)
-      ⊎ (MOST_WORK + work_below from < work_below (suc to)))
+  pub ends : (limit ≤ to) ⊎ ((meant walk.input walk.text to).steps < to)
+
+-- No step before this one is there, and it takes too much work to look at this one.
+pub record IsTooFar (sources : List SourceText) (walk : KeptWalk) (stop : Stop) (from to : ℕ) : Type 0 where
+  pub passed : PassesBetween sources walk stop from to
+  pub work : MOST_WORK + work_below from < work_below (suc to)
+
+-- what a look for the next step at the place to stop at comes to
+abbrev pub IsFound : List SourceText → KeptWalk → Stop → ℕ → ℕ → Found → Type 0
+IsFound sources walk stop from limit (At n) = IsNextStop sources walk stop from n
+IsFound sources walk stop from limit Nowhere = HasNoStop sources walk stop from limit
+IsFound sources walk stop from limit (TooFar n) = IsTooFar sources walk stop from n

@@ -1,8 +1,8 @@
 //! The commands, done by a walk.
-ghost use Rattle.std.specs.Prelude.{◌≡◌, ◌+◌, ◌++◌, [], IfNone, IfOk, IfSome, None, Ok, OnOk, slice_get};
+ghost use Rattle.std.specs.Prelude.{◌≡◌, ◌+◌, ◌++◌, [], IfOk, None, Ok, OnOk, slice_get};
 ghost use Rattle.std.specs.String.{string_bytes};
-ghost use Rattle.teco_debugger.specs.Commands.{IsAnswerTo, AnswersCommand, AnswersCounted, AnswersPlain, GoesOnTo, GoesOnToStop, GoesOrSays, ShowsSeen, TakesBack, Watches, answer_line, command_of, words_of, words_without};
-ghost use Rattle.teco_debugger.specs.Moving.{Arrives, HasNoStop, IsNextStop, MovesTo, SameRun};
+ghost use Rattle.teco_debugger.specs.Commands.{IsAnswerTo, AnswersCommand, AnswersCounted, AnswersPlain, GoesByFound, GoesOnTo, GoesOnToStop, GoesOrSays, ShowsSeen, TakesBack, Watches, answer_line, command_of, far_line, words_of, words_without};
+ghost use Rattle.teco_debugger.specs.Moving.{Arrives, IsFound, MovesTo, SameRun};
 ghost use Rattle.teco_messages.specs.Spelling.{spelled};
 
 use crate::help::{show_help, verb_rows};
@@ -10,10 +10,11 @@ use crate::listing::{show_register, show_registers, show_state, show_text};
 use crate::moving::{ahead, behind};
 use crate::showing::{show_step, show_where};
 use crate::sources::{SourceText, look, shown_name, shown_string};
-use crate::stops::{Stop, line_stop, next_stop};
+use crate::stops::{Found, Stop, line_stop, next_stop};
 use crate::watching::nearest_other;
 use crate::{Counted, DebuggerCommand, Plain, Walk, Watch, Way};
 use std::alloc::Global;
+use std::fmt::Write;
 use teco_core::NoMemory;
 use teco_messages::spell;
 use teco_store::Desk;
@@ -36,6 +37,16 @@ fn show_words(out: &mut String, words: &str) -> Result<(), NoMemory>
 {
     out.push_str(words)?;
     out.push_str("\n")
+}
+
+/// Says that no step before this one is at a place, and that it takes too long to look further.
+fn show_far(out: &mut String, n: u64) -> Result<(), NoMemory>
+    ensures { OnOk result (string_bytes out.new ≡ string_bytes out.old ++ far_line n) }
+{
+    writeln!(
+        out,
+        "no step before step {n} is there, and it takes too long to look further"
+    )
 }
 
 /// Shows what was typed, in a line.
@@ -162,23 +173,29 @@ impl Debugger {
         }
     }
 
-    /// The next step at the place to stop at.
-    fn next_stop(&self, stop: Stop) -> Result<Option<u64>, NoMemory>
-        ensures found { IfOk result (λ found. IfSome found (IsNextStop self.now.sources.items self.now.walk stop (self.now.walk.steps + 1))) }
-        ensures none { IfOk result (λ found. IfNone found
-            (HasNoStop self.now.sources.items self.now.walk stop (self.now.walk.steps + 1) self.now.limit)) }
+    /// Looks for the next step at the place to stop at.
+    fn next_stop(&self, stop: Stop) -> Result<Found, NoMemory>
+        ensures { IfOk result (IsFound self.now.sources.items self.now.walk stop (self.now.walk.steps + 1) self.now.limit) }
     {
         let steps = self.walk.steps();
         if steps >= self.limit {
-            return Ok(None);
+            return Ok(Found::Nowhere);
         }
-        next_stop(
-            &self.walk,
-            self.sources.as_slice(),
-            stop,
-            steps + 1,
-            self.limit,
-        )
+        let sources = self.sources.as_slice();
+        next_stop(&self.walk, sources, stop, steps + 1, self.limit)
+    }
+
+    /// Goes to the step that was found, or says why there is none.
+    fn go_by(&mut self, out: &mut String, found: Found) -> Result<(), NoMemory>
+        requires { string_bytes out.old ≡ [] }
+        ensures goes { OnOk result (GoesByFound found self.old self.new (string_bytes out.new)) }
+        ensures same { SameRun self.old self.new }
+    {
+        match found {
+            Found::At(n) => self.go(out, n),
+            Found::Nowhere => show_words(out, "no step at that place comes"),
+            Found::TooFar(n) => show_far(out, n),
+        }
     }
 
     /// Goes on to the next step that is there.
@@ -187,8 +204,8 @@ impl Debugger {
         ensures continues { OnOk result (GoesOnTo stop self.old self.new (string_bytes out.new)) }
         ensures same { SameRun self.old self.new }
     {
-        let to = self.next_stop(stop)?;
-        self.go_or_say(out, to, "no step at that place comes, or it is too far")
+        let found = self.next_stop(stop)?;
+        self.go_by(out, found)
     }
 
     /// Goes on to the next step at the place to stop at.

@@ -1,6 +1,6 @@
 //! Where a walk stops on its way.
-ghost use Rattle.std.specs.Prelude.{◌≡◌, ◌≤◌, IfNone, IfOk, IfSome, length};
-ghost use Rattle.teco_debugger.specs.Moving.{HasNoStop, IsNextStop, is_at, is_or_any, is_stop, is_there, line_stop};
+ghost use Rattle.std.specs.Prelude.{◌≡◌, IfOk, length};
+ghost use Rattle.teco_debugger.specs.Moving.{IsFound, is_at, is_or_any, is_stop, is_there, line_stop};
 
 use crate::Walk;
 use crate::sources::{Shown, SourceText, look, shown_string};
@@ -78,31 +78,41 @@ fn is_stop(text: &[u8], stop: Stop, n: u64, shown: &Shown) -> bool
     }
 }
 
-/// The first step from `from` on, below a limit, that is at the place to stop at; none, too, where the way there is too long.
+/// What a look for the next step at a place to stop at comes to.
+#[derive(Clone, Copy)]
+pub enum Found {
+    /// This step is there.
+    At(u64),
+    /// None is, up to the limit or the end of the string.
+    Nowhere,
+    /// None before this one is, and it takes too much work to look further.
+    TooFar(u64),
+}
+
+/// Looks for the first step from `from` on, below a limit, that is at the place to stop at.
 pub fn next_stop(
     walk: &Walk,
     sources: &[SourceText],
     stop: Stop,
     from: u64,
     limit: u64,
-) -> Result<Option<u64>, NoMemory>
-    ensures found { IfOk result (λ found. IfSome found (IsNextStop sources.now walk.now stop from)) }
-    ensures none { IfOk result (λ found. IfNone found (HasNoStop sources.now walk.now stop from limit)) }
+) -> Result<Found, NoMemory>
+    ensures { IfOk result (IsFound sources.now walk.now stop from limit) }
 {
     let mut work = MOST_WORK;
     for n in from..limit {
         if n > work {
-            return Ok(None);
+            return Ok(Found::TooFar(n));
         }
         work -= n;
         let shown = look(walk, sources, n)?;
         if shown.seen.outcome.steps < n {
-            return Ok(None);
+            return Ok(Found::Nowhere);
         }
         let text = shown_string(sources, shown.number, walk.text());
         if is_stop(text, stop, n, &shown) {
-            return Ok(Some(n));
+            return Ok(Found::At(n));
         }
     }
-    Ok(None)
+    Ok(Found::Nowhere)
 }

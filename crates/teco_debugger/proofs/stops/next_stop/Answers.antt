@@ -5,13 +5,13 @@ use Rattle.teco_debugger.specs.declared.stops.TheConstants.{MOST_WORK}
 use Rattle.teco_debugger.proofs.Passes.{is_too_far, passes_more, work_more}
 use Rattle.teco_debugger.proofs.stops.next_stop.Goals as goal
 
-pub returns-then-n-work-clause-none : goal.returns-then-n-work-clause-none
-returns-then-n-work-clause-none c =
+pub returns-then-n-work : goal.returns-then-n-work
+returns-then-n-work c =
     let inv = c.loop-n.invariant in
-    is_too_far c.args.sources.now c.args.walk.now c.args.stop c.args.from c.args.limit c.loop-n.n c.loop-n.work inv.0 c.if-n-work.true inv.1
+    is_too_far c.args.sources.now c.args.walk.now c.args.stop c.args.from c.loop-n.n c.loop-n.work inv.0 c.if-n-work.true inv.1
 
-pub returns-then-is_stop-clause-found : goal.returns-then-is_stop-clause-found
-returns-then-is_stop-clause-found c =
+pub returns-then-is_stop : goal.returns-then-is_stop
+returns-then-is_stop c =
     let shown = c.in_ok-shown.shown in
     let string = c.shown_string-text.ensures ∙ ap (shown_string c.args.sources.now shown.number) c.text.ensures in
     let here = ap (λ (t : List ℕ). is_stop t c.args.stop c.loop-n.n shown) (sym string) ∙ (sym c.is_stop.ensures ∙ c.if-is_stop.true) in
