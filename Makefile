@@ -26,8 +26,9 @@ INSTALL = install
 
 NAMES = teco teco-debug tecol teco-term teco-screen
 # What is installed below DOCDIR: these, and the pages and programs in folders of their own.
-TOP_PAGES = README.md CHANGELOG.md SECURITY.md
+TOP_PAGES = README.md CHANGELOG.md SECURITY.md CONTRIBUTING.md
 PAGES = docs/*.md docs/*.svg
+MEASURED = bench/*.md bench/*.svg
 EXAMPLES = examples/*.md examples/*.tec examples/*.in examples/*.out examples/*.typed
 PROGRAMS = out/teco out/teco-debug out/tecol out/teco-term out/teco-screen
 LIBRARY = out/libteco_c.a out/teco.pc
@@ -139,7 +140,7 @@ out/completions: $(PROGRAMS) tools/completions
 ##                    with DESTDIR=FOLDER into a folder that stands for the root
 install: all
 	$(INSTALL) -d '$(DESTDIR)$(BINDIR)' '$(DESTDIR)$(LIBDIR)' '$(DESTDIR)$(INCLUDEDIR)' '$(DESTDIR)$(MANDIR)' '$(DESTDIR)$(LANGUAGEDIR)' '$(DESTDIR)$(PCDIR)' \
-	    '$(DESTDIR)$(DOCDIR)/docs' '$(DESTDIR)$(DOCDIR)/examples' '$(DESTDIR)$(BASHDIR)' '$(DESTDIR)$(ZSHDIR)' '$(DESTDIR)$(FISHDIR)'
+	    '$(DESTDIR)$(DOCDIR)/docs' '$(DESTDIR)$(DOCDIR)/bench' '$(DESTDIR)$(DOCDIR)/examples' '$(DESTDIR)$(BASHDIR)' '$(DESTDIR)$(ZSHDIR)' '$(DESTDIR)$(FISHDIR)'
 	for name in $(NAMES); do \
 	    $(INSTALL) -m 755 out/$$name '$(DESTDIR)$(BINDIR)'/$$name && \
 	    $(INSTALL) -m 644 docs/$$name.1 '$(DESTDIR)$(MANDIR)'/$$name.1 && \
@@ -155,6 +156,7 @@ install: all
 	$(INSTALL) -m 644 out/teco.pc '$(DESTDIR)$(PCDIR)/teco.pc'
 	$(INSTALL) -m 644 $(TOP_PAGES) '$(DESTDIR)$(DOCDIR)'
 	$(INSTALL) -m 644 $(PAGES) '$(DESTDIR)$(DOCDIR)/docs'
+	$(INSTALL) -m 644 $(MEASURED) '$(DESTDIR)$(DOCDIR)/bench'
 	$(INSTALL) -m 644 $(EXAMPLES) '$(DESTDIR)$(DOCDIR)/examples'
 	@echo 'Installed below $(DESTDIR)$(PREFIX). Begin with teco-tutor, or with man teco.'
 
@@ -167,8 +169,8 @@ uninstall:
 	        '$(DESTDIR)$(ZSHDIR)'/_$$name '$(DESTDIR)$(FISHDIR)'/$$name.fish || exit 1; \
 	done
 	rm -f '$(DESTDIR)$(BINDIR)/teco-tutor' '$(DESTDIR)$(MANDIR)/teco-tutor.1' '$(DESTDIR)$(LANGUAGEDIR)/teco.7' '$(DESTDIR)$(LIBDIR)/libteco_c.a' '$(DESTDIR)$(INCLUDEDIR)/teco.h' '$(DESTDIR)$(PCDIR)/teco.pc'
-	for file in $(TOP_PAGES) $(PAGES) $(EXAMPLES); do rm -f '$(DESTDIR)$(DOCDIR)'/$$file || exit 1; done
-	for folder in docs examples ''; do rmdir '$(DESTDIR)$(DOCDIR)'/$$folder 2> /dev/null || true; done
+	for file in $(TOP_PAGES) $(PAGES) $(MEASURED) $(EXAMPLES); do rm -f '$(DESTDIR)$(DOCDIR)'/$$file || exit 1; done
+	for folder in docs bench examples ''; do rmdir '$(DESTDIR)$(DOCDIR)'/$$folder 2> /dev/null || true; done
 
 ## make clean         removes out/; what the crates keep of their proofs stays
 clean:
