@@ -28,7 +28,7 @@ pub(super) const EXAMPLES: &str = "
     // Add a header and a footer
     YIhead\n$ZJ-A-10\"NI\n$'Itail\n$EX$$ => => head\none\ntail\n => one\n => exit
     // Edit the lines between two marks
-    Y<Sbegin\n$;<.-Z;::Send\n$\"L0;'I> $L>>EX$$ => => a\nbegin\n> b\n> c\nend\nd\nbegin\n> e\n => a\nbegin\nb\nc\nend\nd\nbegin\ne\n => exit
+    YZJ-A-10\"NI\n$1UN'J<.-Z;::Sbegin\n$\"S<.-Z;::Send\n$\"S0;'::Sbegin\n$\"S|I> $L'>|L'>QN\"NZJ-D'EX$$ => => a\nbegin\n> b\n> c\nend\nd\nbegin\n> e\n => a\nbegin\nb\nc\nend\nd\nbegin\ne\n => exit
     // Extract what is between two lines
     Y:Sbegin$\"LL.UA:Send$\"L0L|ZJ'QA,.PW'HKYEX$$ => => one\ntwo\n => x\nbegin\none\ntwo\nend\ny\n => exit
     // Remove adjacent duplicate lines

@@ -26,5 +26,5 @@ pub(super) const EXAMPLES: &str = "
     // Convert to uppercase
     Y<.-Z;0A\"V0A-32UXDQXI$|C'>EX$$ => => ONE TWO\n => one Two\n => exit
     // Remove what is between two marks
-    Y<S(*$;-2C.UBS*)$;QB,.K>EX$$ => => a c\n => a (* b *)c(* d *)\n => exit
+    Y<S(*$;.-2UBS*)$;QB,.K>EX$$ => => a c\n => a (* b *)c(* d *)\n => exit
     ";
