@@ -9,6 +9,7 @@ mod driver;
 pub(crate) mod exec;
 mod gap;
 mod io;
+mod journal;
 mod laws;
 mod line_commands;
 pub(crate) mod rows;

@@ -10,6 +10,7 @@ use teco_exec::run;
 use teco_fs::{Disk, MemoryDisk, RefusedCall, has_bytes};
 use teco_gap::GapBuffer;
 use teco_io::{MemorySource, MemoryTerminal, Terminal, read_input};
+use teco_journal::{Record, push_record};
 use teco_lint::check;
 use teco_messages::show_code;
 use teco_scan::{Found, Item, TokenKind, first_fault, token_at};
@@ -152,6 +153,13 @@ fn a_text_is_listed(alloc: Global) -> bool {
     }
 }
 
+/// teco_journal: the line of a record.
+fn a_record_is_put(alloc: Global) -> bool {
+    let (mut out, mut check) = (Vec::new(alloc), *b"0123456789abcdef");
+    push_record(&mut out, &mut check, &Record::Undo).is_ok()
+        && are(&out, b"d4a5323164113ca6 undo\n")
+}
+
 /// teco_check: no command begins with `?`.
 fn an_unknown_command_is_found() -> bool {
     match teco_check::first_fault(b"5=?", &[false; REGISTERS]) {
@@ -237,6 +245,7 @@ fn programs_are_called_so(alloc: Global) -> bool {
     a_code_is_told(alloc)
         && a_source_is_understood(alloc)
         && a_text_is_listed(alloc)
+        && a_record_is_put(alloc)
         && an_unknown_command_is_found()
         && a_clean_text_is_told(alloc)
         && a_fault_is_told(alloc)
