@@ -16,3 +16,4 @@ pub mod Digits
 pub mod Watched
 pub mod Shown
 pub mod Carets
+pub mod NumberedLines

@@ -8,6 +8,7 @@ use lib.Pointwise.{pointwise}
 use Rattle.teco_core.specs.Ascii.{upper}
 use Rattle.teco_core.specs.Register.{register_of}
 use Rattle.teco_messages.specs.Spelling.{spelled}
+use Rattle.teco_debugger.specs.Around.{around_at}
 use Rattle.teco_debugger.specs.Number.{number_in}
 use Rattle.teco_debugger.specs.Finding.{last_change}
 use Rattle.teco_debugger.specs.Walk.{KeptWalk, meant, state_there}
@@ -41,7 +42,7 @@ use Rattle.teco_debugger.specs.declared.watching.Way.{Way}
 use Rattle.teco_debugger.specs.declared.watching.Way.TheVariants.{On, Back}
 use Rattle.teco_debugger.specs.declared.debugger.Debugger.{Debugger}
 use Rattle.teco_debugger.specs.declared.debugger.View.{View}
-use Rattle.teco_debugger.specs.declared.debugger.View.TheVariants.{Step, Where, Typed}
+use Rattle.teco_debugger.specs.declared.debugger.View.TheVariants.{Step, Where, Around, Typed}
 use Prim.Native.Char.{code}
 
 -- a command: its word, the letter that stands for it, and what it takes
@@ -57,7 +58,7 @@ abbrev pub verb_by : VerbRow → Verb
 verb_by row = named row.word.now row.letter.now row.takes
 
 -- the commands; a letter is the first of its word that no word above it has taken. All of those of `watch` are, so it has the d of
--- `differs`.
+-- `differs`. `list` leaves the l to `until`, and has the v of `view`.
 abbrev pub verbs : List Verb
 verbs = named (codes "next") (codes "n") (NumberOr counted.Next 1)
     ∷ named (codes "back") (codes "b") (NumberOr counted.Back 1)
@@ -65,6 +66,7 @@ verbs = named (codes "next") (codes "n") (NumberOr counted.Next 1)
     ∷ named (codes "end") (codes "e") (Nothing plain.End)
     ∷ named (codes "start") (codes "s") (Nothing plain.Start)
     ∷ named (codes "where") (codes "w") (Nothing plain.Where)
+    ∷ named (codes "list") (codes "v") (NumberOr counted.Around 5)
     ∷ named (codes "text") (codes "t") (NumberOr counted.Text 3)
     ∷ named (codes "register") (codes "r") Register
     ∷ named (codes "registers") (codes "i") (Nothing plain.Registers)
@@ -249,6 +251,7 @@ OnlyShows text old new shown = (new ≡ old) × (shown ≡ text)
 abbrev pub seen_shown : View → List SourceText → KeptWalk → Shown → List ℕ
 seen_shown Step sources walk there = step_at sources walk there
 seen_shown Where sources walk there = where_at sources walk there
+seen_shown (Around n) sources walk there = around_at sources walk there n
 seen_shown Typed sources walk there = answer_line (spelled there.seen.typed.items)
 
 -- This is shown of where a walk stands, behind what was shown before.
@@ -261,6 +264,12 @@ abbrev pub ShowsWhere : Debugger → Debugger → List ℕ → Type 0
 ShowsWhere old new shown = (new ≡ old)
     × ((there : Shown) × IsShownAt old.sources.items old.walk old.walk.steps there
     × (shown ≡ where_at old.sources.items old.walk there))
+
+-- Where the walk stands is shown, with so many lines before and after that of the step.
+abbrev pub ShowsAround : ℕ → Debugger → Debugger → List ℕ → Type 0
+ShowsAround n old new shown = (new ≡ old)
+    × ((there : Shown) × IsShownAt old.sources.items old.walk old.walk.steps there
+    × (shown ≡ around_at old.sources.items old.walk there n))
 
 -- A line for each command is shown, in their order, with its word and its letter.
 abbrev pub ShowsHelp : Debugger → Debugger → List ℕ → Type 0
@@ -336,6 +345,7 @@ abbrev pub AnswersCounted : Counted → ℕ → Debugger → Debugger → List �
 AnswersCounted counted.Next n old new shown = MovesTo (min (old.walk.steps + n) old.limit) old new shown
 AnswersCounted counted.Back n old new shown = MovesTo (old.walk.steps - n) old new shown
 AnswersCounted counted.Goto n old new shown = MovesTo (min n old.limit) old new shown
+AnswersCounted counted.Around n old new shown = ShowsAround n old new shown
 AnswersCounted counted.Text n old new shown = OnlyShows (lines_there_shown (state_there old.walk) n) old new shown
 AnswersCounted counted.Undo n old new shown = TakesBack (moves_left n old.moves.items)
     (slice_get old.moves.items (moves_left n old.moves.items)) old new shown

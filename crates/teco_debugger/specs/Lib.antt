@@ -1,3 +1,4 @@
+pub mod Around
 pub mod CommandLine
 pub mod Commands
 pub mod Ending

@@ -5,6 +5,7 @@ ghost use Rattle.teco_debugger.specs.Commands.{IsAnswerTo, AnswersCommand, Answe
 ghost use Rattle.teco_debugger.specs.Moving.{Arrives, IsFound, MovesTo, SameRun};
 ghost use Rattle.teco_messages.specs.Spelling.{spelled};
 
+use crate::around::show_around;
 use crate::help::{show_help, verb_rows};
 use crate::listing::{show_register, show_registers, show_state, show_text};
 use crate::moving::{ahead, behind};
@@ -74,6 +75,8 @@ pub enum View {
     Step,
     /// All that is open there, too.
     Where,
+    /// So many lines before and after that of the step.
+    Around(u64),
     /// What was typed so far.
     Typed,
 }
@@ -107,6 +110,7 @@ impl Debugger {
         match view {
             View::Step => show_step(out, &self.walk, name, string, &there.seen),
             View::Where => show_where(out, &self.walk, name, string, &there.seen),
+            View::Around(n) => show_around(out, &self.walk, name, string, &there.seen, n),
             View::Typed => show_typed(out, there.seen.typed.as_slice()),
         }
     }
@@ -260,6 +264,7 @@ impl Debugger {
             Counted::Next => self.go(out, ahead(steps, n, self.limit)),
             Counted::Back => self.go(out, behind(steps, n)),
             Counted::Goto => self.go(out, n.min(self.limit)),
+            Counted::Around => self.show(out, View::Around(n)),
             Counted::Text => show_text(out, self.walk.editor(), n),
             Counted::Undo => self.take_back(out, moves.saturating_sub(n as usize)),
             Counted::Until => self.go_on_to(out, line_stop(n)),

@@ -2,6 +2,7 @@
 #![tactic(auto)]
 
 mod arguments;
+mod around;
 mod command;
 mod debugger;
 mod ending;

@@ -18,7 +18,7 @@ use teco_store::Desk;
 const MOST_FAULTY: usize = 1;
 
 /// The innermost of the texts with these calls, as it is now: the string, or what a register holds.
-fn innermost<'a>(walk: &'a Walk, string: &'a [u8], place: &Place) -> &'a [u8]
+pub fn innermost<'a>(walk: &'a Walk, string: &'a [u8], place: &Place) -> &'a [u8]
     ensures { result.now ≡ innermost walk.now string.now place.now }
 {
     text_under(place, 0, walk.editor().registers(), string)
@@ -124,7 +124,7 @@ fn show_whole_line(out: &mut String, text: &[u8], at: usize) -> Result<(), NoMem
 
 /// Shows carets below as much of the token at a place as is in the line.
 #[tactic(auto, unfolding(crate::specs::Showing::mark_shown))]
-fn show_mark(out: &mut String, text: &[u8], at: usize) -> Result<(), NoMemory>
+pub fn show_mark(out: &mut String, text: &[u8], at: usize) -> Result<(), NoMemory>
     requires { at ≤ length text.now }
     ensures { OnOk result (string_bytes out.new ≡ string_bytes out.old ++ mark_shown text.now at) }
 {

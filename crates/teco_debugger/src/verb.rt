@@ -28,6 +28,8 @@ pub enum Counted {
     Goto,
     /// So many lines before and after the pointer.
     Text,
+    /// So many lines of the source before and after that of the step.
+    Around,
     /// So many moves taken back.
     Undo,
     /// On to a step in this line.
@@ -66,7 +68,7 @@ pub struct VerbRow {
 }
 
 /// Every command, in the order of the help.
-pub const VERBS: [VerbRow; 19] = [
+pub const VERBS: [VerbRow; 20] = [
     VerbRow {
         word: "next",
         letter: "n",
@@ -108,6 +110,13 @@ pub const VERBS: [VerbRow; 19] = [
         takes: Takes::Nothing(Plain::Where),
         operand: "",
         help: "the line with its token marked, the open calls and iterations",
+    },
+    VerbRow {
+        word: "list",
+        letter: "v",
+        takes: Takes::NumberOr(Counted::Around, 5),
+        operand: "[N]",
+        help: "N lines of the source before and after that of the step, with their numbers; 5 without N",
     },
     VerbRow {
         word: "text",
