@@ -8,3 +8,4 @@ pub mod CommandSources
 pub mod Parts
 pub mod PageFits
 pub mod FirstValues
+pub mod FoundFiles

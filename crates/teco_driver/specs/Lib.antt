@@ -1,3 +1,4 @@
+pub mod Library
 pub mod Lines
 pub mod Checks
 pub mod Backups

@@ -3,17 +3,19 @@ use Rattle.teco_io.specs.declared.source.Source.{Ghosts as SourceView}
 use Rattle.std.specs.Prelude.{◌≡◌, ◌⊎◌, ℕ, List, [], ◌∷◌, codes, map, true, false}
 use Rattle.std.specs.String.{string_bytes}
 use Rattle.teco_io.specs.Terminal.{Screen}
+use Rattle.teco_cli.specs.declared.line.Commands.{Commands}
 use Rattle.teco_cli.specs.declared.line.Line.{Line}
 use Rattle.teco_cli.specs.CommandLine.{IsLine, IsLineFault}
 use Rattle.teco_cli.specs.Words.{IsLineIn, Words}
 use Rattle.teco_driver.specs.Checks.{AreRejected, MayRun, TellsVerdict}
+use Rattle.teco_driver.specs.Library.{FindsFiles}
 use Rattle.teco_driver.specs.Lines.{worst}
 use Rattle.teco_driver.specs.declared.giving.Feed.{Feed}
 use Rattle.teco_driver.specs.declared.host.Host.{Host}
 use Rattle.teco_driver.specs.Run.{Concludes}
 use Rattle.teco_driver.specs.Given.{EditsBy, EditsByBytes, EditsGiven, HostView, IsIdle, is_streamed}
 use Rattle.teco_fs.specs.Console.{console}
-use Rattle.teco_fs.specs.Refusing.{Refuses}
+use Rattle.teco_fs.specs.Refusing.{Refuses, Tells}
 use Rattle.teco_fs.specs.Seen.{DiskSeen, KeepsDisk}
 use Rattle.teco_serve.specs.Ending.{said}
 use Rattle.teco_serve.specs.declared.fate.Fate.{Fate}
@@ -106,15 +108,33 @@ RunsOrChecks view errors line old new told telling status = ((line.check ≡ fal
     × (RunsOverOne view errors line old new told telling status ⊎ RunsOverAll view errors line old new told telling status))
     ⊎ ChecksLine view.disk view.stream view.screen errors line old new told telling status
 
+-- the line with other commands
+abbrev pub with_commands : Line → Commands → Line
+with_commands line commands = record line { commands = commands }
+
+-- the host with its disk at another moment
+abbrev pub with_disk : {S A T D : Type 0} → Host S A T D → D → Host S A T D
+with_disk host disk = record host { disk = disk }
+
+-- The files of the commands are looked for in these folders, and nothing changes by that. The line with the names that are found is run
+-- over or checked. Or memory is refused to look for them, and that is told.
+pub record RunsFound {D I S A T E : Type 0} (view : HostView D I S T) (errors : E → Screen) (folders : List (List ℕ)) (line : Line)
+    (old new : Host S A T D) (told telling : E) (status : ℕ) : Type 0 where
+  pub disk : D
+  pub kept : KeepsDisk (view.disk old.disk) (view.disk disk)
+  pub runs : ((new ≡ with_disk old disk) × (status ≡ 1) × Tells (errors told) (errors telling) (said (codes "no memory")))
+      ⊎ ((found : Commands) × FindsFiles view.disk folders line.commands old.disk disk found
+      × RunsOrChecks view errors (with_commands line found) (with_disk old disk) new told telling status)
+
 -- The words say a line, and it is run over or checked; or they say none, and nothing is done but that that is told.
-pub record RunsOverLine {D I S A T E : Type 0} (view : HostView D I S T) (errors : E → Screen) (words : Words)
+pub record RunsOverLine {D I S A T E : Type 0} (view : HostView D I S T) (errors : E → Screen) (folders : List (List ℕ)) (words : Words)
     (old new : Host S A T D) (told telling : E) (status : ℕ) : Type 0 where
   pub line : Line
   pub line_is : IsLineIn IsLine words line
-  pub runs : RunsOrChecks view errors line old new told telling status
+  pub runs : RunsFound view errors folders line old new told telling status
 
-abbrev pub Runs : {D I S A T E : Type 0} → HostView D I S T → (E → Screen) → Words → Host S A T D → Host S A T D → E → E → ℕ → Type 0
-Runs view errors words old new told telling status =
+abbrev pub Runs : {D I S A T E : Type 0} → HostView D I S T → (E → Screen) → List (List ℕ) → Words → Host S A T D → Host S A T D → E → E → ℕ → Type 0
+Runs view errors folders words old new told telling status =
     Refuses (console view.screen old.terminal new.terminal errors told telling) (said (codes "no memory")) IsLineFault words
     ((new.commands ≡ old.commands) × (new.disk ≡ old.disk)) status
-    ⊎ RunsOverLine view errors words old new told telling status
+    ⊎ RunsOverLine view errors folders words old new told telling status

@@ -9,6 +9,7 @@ mod editing;
 mod fates;
 mod giving;
 mod host;
+mod library;
 mod looking;
 mod paging;
 mod placing;

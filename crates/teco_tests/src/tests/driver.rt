@@ -31,8 +31,13 @@ mod word;
 
 /// The words of a text with a blank between them, as the program is given them. A word that was refused memory is left out.
 pub(crate) fn words_of(alloc: Global, text: &str) -> Vec<String> {
+    parts_of(alloc, text, ' ')
+}
+
+/// The parts of a text with this between them. A part that was refused memory is left out.
+fn parts_of(alloc: Global, text: &str, between: char) -> Vec<String> {
     let mut words = Vec::new(alloc);
-    for word in text.split(' ') {
+    for word in text.split(between) {
         if let Ok(word) = String::from_str(alloc, word) {
             let _ = words.push(word).is_ok();
         }
@@ -95,10 +100,16 @@ fn status_of_tecol<A>(
 
 /// The files after a run of `teco` or `tecol` over these; none if it doesn't end so, or doesn't type, tell and note what its row says.
 fn files_after(alloc: Global, disk: MemoryDisk, cells: &Cells) -> Option<MemoryDisk> {
+    let (line, library) = halves_at(cells[0], " TECO_LIBRARY=");
     let words = if is(cells[8], "no words") {
         Err(LineFault::NoMemory)
     } else {
-        Ok(words_of(alloc, cells[0]))
+        Ok(words_of(alloc, line))
+    };
+    let library = if library.is_empty() {
+        Vec::new(alloc)
+    } else {
+        parts_of(alloc, library, ':')
     };
     let commands = commands_of(cells[1]);
     let bytes = joined(alloc, &[commands.as_bytes()]);
@@ -114,7 +125,14 @@ fn files_after(alloc: Global, disk: MemoryDisk, cells: &Cells) -> Option<MemoryD
     let status = if cells[0].starts_with("tecol") {
         status_of_tecol(alloc, words, &mut host, &mut told)
     } else {
-        program(alloc, words, &mut host, &mut told, &mut noted)
+        program(
+            alloc,
+            words,
+            library.as_slice(),
+            &mut host,
+            &mut told,
+            &mut noted,
+        )
     };
     let held = status == ExitCode::from(number_or(cells[5], 0).min(255) as u8)
         && is_typed(&host.terminal, cells[2])
@@ -181,7 +199,7 @@ fn has_just(disk: &MemoryDisk, cell: &str) -> bool {
     held && count < 6 && disk.has_only(&files[..count.min(6)])
 }
 
-/// A run: its words, with blanks between them; its commands, where none are said if no run may read them; what it types, tells on standard
+/// A run: its words, with blanks between them, and its library after them, if it has one; its commands, where none are said if no run may read them; what it types, tells on standard
 /// error and notes there besides; its status, if not 0; the files before it, and those after it, if they are others; and which call of
 /// the disk is refused, or that memory for the words was, or all that is to be shown.
 #[derive(Clone, Copy)]

@@ -65,4 +65,11 @@ pub(crate) const ROWS: &str = "
     - teco -p J$$K in => => => --pages:1:1: UTC: < has no >\n--pages:1:5: BNI: > has no <\n => => 3 => in == hi\n
     - // What no check looks into is run: code that is made while it runs. So are the bytes of a file as they are.
     - teco -i -e Y1XA0LMAEX$$ in => => => => teco: in: --execute:1:7 in A 1:1: ILL: no such command\n => 2 => in == ?\n
-    - teco -i -b strings in => => => => teco: in: strings: string 1, 1:2: IQN: no such register\n => => in == hi\n ++ strings == YM?\x1b\x1bEX\x1b\x1b";
+    - teco -i -b strings in => => => => teco: in: strings: string 1, 1:2: IQN: no such register\n => => in == hi\n ++ strings == YM?\x1b\x1bEX\x1b\x1b
+    - // A file of commands is looked for in the folders of the library: the first that has it, after the current folder. A name with a slash, and one that would be standard input there, are not.
+    - teco -f sum in TECO_LIBRARY=one:two => unread => 3\r\n => => => => in == hi\n ++ two/sum == YZ=EX$$ => in == hi\n ++ two/sum == YZ=EX$$ ++ in.out == hi\n
+    - teco -f sum in TECO_LIBRARY=two => unread => 3\r\n => => => => in == hi\n ++ sum == YZ=EX$$ ++ two/sum == Y1=EX$$ => in == hi\n ++ sum == YZ=EX$$ ++ two/sum == Y1=EX$$ ++ in.out == hi\n
+    - teco -f a/sum in TECO_LIBRARY=two => unread => => teco: cannot read a/sum: there is no such file or folder\n => => 1 => in == hi\n ++ two/a/sum == YZ=EX$$
+    - teco -f sum in TECO_LIBRARY=one:two => unread => => teco: cannot read sum: there is no such file or folder\n => => 1 => in == hi\n
+    - teco -f stdin in TECO_LIBRARY=/dev => unread => => teco: cannot read stdin: there is no such file or folder\n => => 1 => in == hi\n
+    - teco --check -f sum in TECO_LIBRARY=two => unread => two/sum:1:2: IQN: after M comes a register, A to Z or 0 to 9\n => => => 2 => two/sum == YM?$$EX$$";
