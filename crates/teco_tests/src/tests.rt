@@ -12,6 +12,7 @@ mod io;
 mod journal;
 mod laws;
 mod line_commands;
+mod replay;
 pub(crate) mod rows;
 pub(crate) mod scan;
 pub(crate) mod search;

@@ -13,6 +13,7 @@ use teco_io::{MemorySource, MemoryTerminal, Terminal, read_input};
 use teco_journal::{Record, push_record};
 use teco_lint::check;
 use teco_messages::show_code;
+use teco_replay::resume;
 use teco_scan::{Found, Item, TokenKind, first_fault, token_at};
 use teco_search::{Pattern, find};
 use teco_serve::{Asked, Splitter};
@@ -160,6 +161,16 @@ fn a_record_is_put(alloc: Global) -> bool {
         && are(&out, b"d4a5323164113ca6 undo\n")
 }
 
+/// teco_replay: a string and its undo, done again.
+fn a_session_is_resumed(alloc: Global) -> bool {
+    let text = joined(alloc, &[b"Ihello\x1b"]);
+    let records = [Record::Run { steps: 1, text }, Record::Undo];
+    match resume(Vec::new(alloc), 0, None, &records, &mut wide_screen(alloc)) {
+        Ok(session) => session.strings() == 1 && session.cursor() == 0,
+        Err(_) => false,
+    }
+}
+
 /// teco_check: no command begins with `?`.
 fn an_unknown_command_is_found() -> bool {
     match teco_check::first_fault(b"5=?", &[false; REGISTERS]) {
@@ -246,6 +257,7 @@ fn programs_are_called_so(alloc: Global) -> bool {
         && a_source_is_understood(alloc)
         && a_text_is_listed(alloc)
         && a_record_is_put(alloc)
+        && a_session_is_resumed(alloc)
         && an_unknown_command_is_found()
         && a_clean_text_is_told(alloc)
         && a_fault_is_told(alloc)

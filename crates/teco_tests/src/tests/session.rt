@@ -3,7 +3,7 @@ mod breaks;
 mod exits;
 mod failing_terminals;
 mod history;
-mod random;
+pub(crate) mod random;
 mod records;
 pub(crate) mod requests;
 mod single_bytes;

@@ -86,13 +86,13 @@ struct Course {
 }
 
 /// The next number that is made.
-fn roll(seed: &mut u32) -> usize {
+pub(crate) fn roll(seed: &mut u32) -> usize {
     *seed = seed.wrapping_mul(1664525).wrapping_add(1013904223);
     (*seed >> 16) as usize
 }
 
 /// A string of one to four parts, each in a row from 0 to 63.
-fn made(alloc: Global, seed: &mut u32) -> Vec<u8> {
+pub(crate) fn made(alloc: Global, seed: &mut u32) -> Vec<u8> {
     let mut text = Vec::new(alloc);
     for _ in 0..=roll(seed) % 4 {
         let row = roll(seed) % 64;
