@@ -31,7 +31,7 @@ front_lacks c (suc n) (b ∷ bs) h = more_lacks c b (take n bs) (first_lacks c b
 pub same_byte : (b : ℕ) → eqb b b ≡ true
 same_byte b = eq-eqb b b refl
 
-other_byte : (b c : ℕ) → eqb b c ≡ false → b ≡ c → ⊥
+pub other_byte : (b c : ℕ) → eqb b c ≡ false → b ≡ c → ⊥
 other_byte b c ne is = (let same : eqb b c ≡ true = ap (eqb b) (sym is) ∙ same_byte b in cc)
 
 -- Up to the first such byte both are the same, and so they are after it.

@@ -5,3 +5,8 @@ pub mod Fronts
 pub mod InLine
 pub mod Parsing
 pub mod Progress
+pub mod Cuts
+pub mod Digits
+pub mod HeadParts
+pub mod WholeHeads
+pub mod Files

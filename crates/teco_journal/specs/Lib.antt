@@ -3,3 +3,7 @@ pub mod Lines
 pub mod Reading
 pub mod Laws
 pub mod Progress
+pub mod Heads
+pub mod HeadFaults
+pub mod Files
+pub mod FileLaws

@@ -1,15 +1,24 @@
-//! The file of a session: what each request did, as lines that are read again, each with a check of all before it.
+//! The file of a session: what it begins with, and what each request did, as lines that are read again, each with a check of all before it.
 #![tactic(auto)]
 
 mod check;
+mod head;
+mod head_reader;
 mod laws;
+mod numbers;
 mod reader;
 mod record;
+mod session_file;
+mod start;
 mod words;
 mod writer;
 
 pub use check::{CHECK_LENGTH, check_of};
-pub use laws::journal_laws;
+pub use head::{NewHead, new_head};
+pub use head_reader::{Head, HeadFault, read_head};
+pub use laws::{file_laws, journal_laws};
 pub use reader::{Ending, Journal, read_journal};
 pub use record::Record;
+pub use session_file::{SessionFault, SessionFile, read_session};
+pub use start::Start;
 pub use writer::push_record;

@@ -5,20 +5,12 @@ ghost use Rattle.teco_source.specs.declared.reader.Mode.TheVariants.{First};
 ghost use Rattle.teco_journal.specs.Events.{Event, HasRecord, cut, event_of, event_told, forgot, ran, redid, undid};
 ghost use Rattle.teco_journal.specs.Lines.{words_of};
 
+use crate::numbers::{number, push_number};
 use crate::record::Record;
-use itoa::Buffer;
 use memchr::memchr;
 use std::alloc::Global;
-use std::str::from_utf8;
 use teco_core::NoMemory;
 use teco_source::{Mode, ReaderFault, commands, push_line};
-
-fn push_number(out: &mut Vec<u8>, number: u64) -> Result<(), NoMemory>
-    ensures { OnOk result (out.new.items ≡ out.old.items ++ decimal number) }
-{
-    let mut buffer = Buffer::new();
-    out.extend_from_slice(buffer.format(number).as_bytes())
-}
 
 /// Puts a text as a source spells it, and the end of its line.
 fn push_text(out: &mut Vec<u8>, text: &[u8]) -> Result<(), NoMemory>
@@ -48,25 +40,15 @@ fn push_rewind(out: &mut Vec<u8>, steps: u64) -> Result<(), NoMemory>
 }
 
 /// Puts the words of a record, and the end of their line.
-pub fn push_words(out: &mut Vec<u8>, record: &Record) -> Result<(), NoMemory>
-    ensures { OnOk result (out.new.items ≡ out.old.items ++ words_of (event_of record.now)) }
+pub fn push_words(out: &mut Vec<u8>, told: &Record) -> Result<(), NoMemory>
+    ensures { OnOk result (out.new.items ≡ out.old.items ++ words_of (event_of told.now)) }
 {
-    match record {
+    match told {
         Record::Run { steps, text } => push_run(out, *steps, text),
         Record::Undo => out.extend_from_slice(b"undo\n"),
         Record::Redo => out.extend_from_slice(b"redo\n"),
         Record::Rewind(steps) => push_rewind(out, *steps),
         Record::Forget => out.extend_from_slice(b"forget\n"),
-    }
-}
-
-/// The number that some digits are, if they are one. Of other bytes too it may tell one.
-fn number(digits: &[u8]) -> Option<u64>
-    ensures { (n : ℕ) → n < 2 ^ 64 → digits.now ≡ decimal n → result ≡ Some n }
-{
-    match from_utf8(digits) {
-        Ok(text) => text.parse().ok(),
-        Err(_) => None,
     }
 }
 

@@ -12,15 +12,15 @@ use teco_core::NoMemory;
 pub fn push_record(
     out: &mut Vec<u8>,
     last: &mut [u8; CHECK_LENGTH],
-    record: &Record,
+    told: &Record,
 ) -> Result<(), NoMemory>
-    ensures line { OnOk result (out.new.items ≡ out.old.items ++ line_of last.old (words_of (event_of record.now))) }
-    ensures check { OnOk result (last.new ≡ check_of last.old (words_of (event_of record.now))) }
+    ensures line { OnOk result (out.new.items ≡ out.old.items ++ line_of last.old (words_of (event_of told.now))) }
+    ensures check { OnOk result (last.new ≡ check_of last.old (words_of (event_of told.now))) }
     ensures err { OnErr result ((out.new.items ≡ out.old.items) × (last.new ≡ last.old)) }
 {
     let alloc = *out.allocator();
     let mut words = Vec::new(alloc);
-    push_words(&mut words, record)?;
+    push_words(&mut words, told)?;
     let check = check_of(last, &words);
     let mut line = Vec::from_slice(alloc, &check)?;
     line.extend_from_slice(b" ")?;

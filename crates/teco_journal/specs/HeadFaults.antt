@@ -1,0 +1,47 @@
+-- Why bytes begin with no head.
+use Rattle.std.specs.Prelude.{◌≡◌, ◌≢◌, ℕ, ◌<◌, List, ◌++◌, length, decimal}
+use Rattle.teco_journal.specs.declared.head_reader.HeadFault.{HeadFault}
+use Rattle.teco_journal.specs.declared.head_reader.HeadFault.TheVariants.{Version, Torn, Changed}
+use Rattle.teco_journal.specs.Heads.{Origin, HasHead, IsWide, version, whole_head}
+use Rattle.teco_journal.specs.Reading.{Begins}
+
+-- Whatever comes after these bytes and those, they are not the same: neither is a front of the other.
+abbrev pub Differ : List ℕ → List ℕ → Type 0
+Differ these those = (x y : List ℕ) → these ++ x ≢ those ++ y
+
+-- They are cut off before the end of a word.
+abbrev pub IsCutOff : List ℕ → List ℕ → Type 0
+IsCutOff bytes word = (more : List ℕ) × (0 < length more) × (word ≡ bytes ++ more)
+
+-- why bytes don't begin with a word, with the line of the version, or with any of some words
+abbrev pub FailsAt : List ℕ → List ℕ → HeadFault → Type 0
+FailsAt word bytes Torn = IsCutOff bytes word
+FailsAt word bytes Changed = Differ word bytes
+FailsAt word bytes Version = ⊥
+
+abbrev pub IsNoVersion : List ℕ → HeadFault → Type 0
+IsNoVersion bytes Version = Differ version bytes
+IsNoVersion bytes Torn = IsCutOff bytes version
+IsNoVersion bytes Changed = ⊥
+
+abbrev pub Fails : {A : Type 0} → (A → Type 0) → (A → List ℕ) → List ℕ → HeadFault → Type 0
+Fails {A} Fits word_of bytes Torn = (a : A) × Fits a × IsCutOff bytes (word_of a)
+Fails {A} Fits word_of bytes Changed = (a : A) → Fits a → Differ (word_of a) bytes
+Fails Fits word_of bytes Version = ⊥
+
+-- why a line that ends nowhere is none of a number
+abbrev pub IsNoNumber : List ℕ → HeadFault → Type 0
+IsNoNumber digits Torn = (n : ℕ) × IsWide n × (more : List ℕ) × (decimal n ≡ digits ++ more)
+IsNoNumber digits Changed = (n : ℕ) (more : List ℕ) → IsWide n → decimal n ≢ digits ++ more
+IsNoNumber digits Version = ⊥
+
+-- No head stands at the front.
+abbrev pub HasNoHead : List ℕ → Type 0
+HasNoHead bytes = (origin : Origin) → HasHead origin → Begins (whole_head origin) bytes → ⊥
+
+-- Version: neither do they begin with the line of the version, nor are they a front of it. Torn: they are a front of a head, and end
+-- before it does. Changed: they begin with that line, and are no front of a head.
+abbrev pub IsRefused : List ℕ → HeadFault → Type 0
+IsRefused bytes Version = Differ version bytes
+IsRefused bytes Torn = (origin : Origin) × HasHead origin × IsCutOff bytes (whole_head origin)
+IsRefused bytes Changed = Begins version bytes × ((origin : Origin) → HasHead origin → Differ (whole_head origin) bytes)
