@@ -8,7 +8,7 @@ use Rattle.teco_source.proofs.Bytes.{differs}
 use Rattle.teco_journal.specs.HeadFaults.{Fails, FailsAt, IsNoNumber}
 use Rattle.teco_journal.specs.declared.head_reader.HeadFault.{HeadFault}
 use Rattle.teco_journal.specs.declared.head_reader.HeadFault.TheVariants.{Version, Torn, Changed}
-use Rattle.teco_journal.specs.Heads.{IsWide, number_line}
+use Rattle.teco_journal.specs.Heads.{FitsNumber, number_line}
 use Rattle.teco_journal.proofs.Lacking.{lacks, more_lacks, first_lacks, rest_lacks, other_byte, first_part}
 use Rattle.teco_journal.proofs.EventWords.{decimal_lacks}
 use Rattle.teco_journal.proofs.Cuts.{cut_more, differ_more}
@@ -59,19 +59,19 @@ front_of_more c (d ∷ ds) (f ∷ fs) more e =
     ]
 
 abbrev IsNumber : List ℕ → Type 0
-IsNumber ds = (k : ℕ) × IsWide k × (ds ≡ decimal k)
+IsNumber ds = (k : ℕ) × FitsNumber k × (ds ≡ decimal k)
 
 abbrev FrontsAreNumbers : ℕ → List ℕ → Type 0
-FrontsAreNumbers n ds = IsWide n → ds ≡ decimal n → (front more : List ℕ) → 0 < length front → ds ≡ front ++ more → IsNumber front
+FrontsAreNumbers n ds = FitsNumber n → ds ≡ decimal n → (front more : List ℕ) → 0 < length front → ds ≡ front ++ more → IsNumber front
 
-one_digit : (n : ℕ) (front more : List ℕ) → IsWide n → (48 + n) ∷ [] ≡ decimal n → 0 < length front → (48 + n) ∷ [] ≡ front ++ more → IsNumber front
+one_digit : (n : ℕ) (front more : List ℕ) → FitsNumber n → (48 + n) ∷ [] ≡ decimal n → 0 < length front → (48 + n) ∷ [] ≡ front ++ more → IsNumber front
 one_digit n [] more wide is some e = absurd (omega arith)
 one_digit n (f ∷ []) more wide is some e = (n, wide, (let same : (48 + n) ∷ [] ≡ f ∷ [] = cc in sym same ∙ is))
 one_digit n (f ∷ g ∷ fs) more wide is some e = absurd (cc)
 
 more_digits : (n : ℕ) (ds : List ℕ) → 10 ≤ n → FrontsAreNumbers (n / 10) ds → FrontsAreNumbers n (ds ++ ((48 + n % 10) ∷ []))
 more_digits n ds ten fronts wide is front more some e =
-    let less : IsWide (n / 10) = omega arith in
+    let less : FitsNumber (n / 10) = omega arith in
     let before : ds ≡ decimal (n / 10) = append_cancel_right ds (decimal (n / 10)) ((48 + n % 10) ∷ []) (is ∙ decimal_step n ten wide) in
     elim (front_of_more (48 + n % 10) ds front more e) [
       | inl h ↦ (n, wide, h ∙ is)
@@ -79,26 +79,26 @@ more_digits n ds ten fronts wide is front more some e =
     ]
 
 -- A front of a number's digits, of one digit at least, has those of a number.
-fronts_are_numbers : (n : ℕ) (front more : List ℕ) → IsWide n → 0 < length front → decimal n ≡ front ++ more → IsNumber front
+fronts_are_numbers : (n : ℕ) (front more : List ℕ) → FitsNumber n → 0 < length front → decimal n ≡ front ++ more → IsNumber front
 fronts_are_numbers n front more wide some e =
     decimal_by_steps FrontsAreNumbers (λ m one h is f r s q. one_digit m f r h is s q) more_digits n wide wide refl front more some e
 
-pub no_front : (digits : List ℕ) → 0 < length digits → ((n : ℕ) → IsWide n → digits ≡ decimal n → ⊥) → IsNoNumber digits Changed
+pub no_front : (digits : List ℕ) → 0 < length digits → ((n : ℕ) → FitsNumber n → digits ≡ decimal n → ⊥) → IsNoNumber digits Changed
 no_front digits some none = λ n more wide e. (let k = fronts_are_numbers n digits more wide some e in none k.0 k.1 k.2)
 
 pub number_parts : (word digits rest : List ℕ) → ((word ++ digits) ++ 10 ∷ []) ++ rest ≡ word ++ (digits ++ 10 ∷ rest)
 number_parts word digits rest = append_assoc (word ++ digits) (10 ∷ []) rest ∙ append_assoc word digits (10 ∷ rest)
 
 -- A line of a number tells one number, whatever comes after it.
-pub number_lines_same : (word : List ℕ) (m n : ℕ) (x y : List ℕ) → IsWide m → IsWide n → number_line word m ++ x ≡ number_line word n ++ y → (m ≡ n) × (x ≡ y)
+pub number_lines_same : (word : List ℕ) (m n : ℕ) (x y : List ℕ) → FitsNumber m → FitsNumber n → number_line word m ++ x ≡ number_line word n ++ y → (m ≡ n) × (x ≡ y)
 number_lines_same word m n x y p q e =
     let parts = first_part 10 (decimal m) (decimal n) x y (decimal_lacks 10 m (omega arith) p) (decimal_lacks 10 n (omega arith) q)
     (append_cancel_left word (decimal m ++ 10 ∷ x) (decimal n ++ 10 ∷ y) (sym (number_parts word (decimal m) x) ∙ e ∙ number_parts word (decimal n) y)) in
     (decimal_injective m n p q parts.0, parts.1)
 
 -- Bytes after the word, up to the end of a line, or without one.
-pub cut_number_line : (word bytes : List ℕ) (fault : HeadFault) → FailsAt word bytes fault → Fails IsWide (number_line word) bytes fault
-cut_number_line word bytes Torn h = (0, (let wide : IsWide 0 = omega arith in wide), cut_more (word ++ decimal 0) (10 ∷ []) bytes (cut_more word (decimal 0) bytes h))
+pub cut_number_line : (word bytes : List ℕ) (fault : HeadFault) → FailsAt word bytes fault → Fails FitsNumber (number_line word) bytes fault
+cut_number_line word bytes Torn h = (0, (let wide : FitsNumber 0 = omega arith in wide), cut_more (word ++ decimal 0) (10 ∷ []) bytes (cut_more word (decimal 0) bytes h))
 cut_number_line word bytes Changed h = λ n wide. differ_more (word ++ decimal n) (10 ∷ []) bytes (differ_more word (decimal n) bytes h)
 cut_number_line word bytes Version h = h
 
@@ -109,7 +109,7 @@ after_word word bytes rest n x y is e =
     (sym (number_parts word (decimal n) x) ∙ e ∙ ap (λ (l : List ℕ). l ++ y) is ∙ append_assoc word rest y)
 
 pub unended_number : (word bytes rest : List ℕ) (fault : HeadFault) → bytes ≡ word ++ rest → lacks 10 rest ≡ true → IsNoNumber rest fault
-    → Fails IsWide (number_line word) bytes fault
+    → Fails FitsNumber (number_line word) bytes fault
 unended_number word bytes rest Torn is one h = (
   h.0,
   h.1,
@@ -126,7 +126,7 @@ unended_number word bytes rest Changed is one h = λ n wide x y e.
 unended_number word bytes rest Version is one h = h
 
 pub other_number : (word bytes rest digits left : List ℕ) → bytes ≡ word ++ rest → rest ≡ digits ++ 10 ∷ left → lacks 10 digits ≡ true
-    → ((n : ℕ) → IsWide n → digits ≡ decimal n → ⊥) → Fails IsWide (number_line word) bytes Changed
+    → ((n : ℕ) → FitsNumber n → digits ≡ decimal n → ⊥) → Fails FitsNumber (number_line word) bytes Changed
 other_number word bytes rest digits left is parted one none = λ n wide x y e.
     (let there : decimal n ++ 10 ∷ x ≡ digits ++ 10 ∷ (left ++ y) =
     after_word word bytes rest n x y is e ∙ ap (λ (l : List ℕ). l ++ y) parted ∙ append_assoc digits (10 ∷ left) y in
@@ -138,7 +138,7 @@ this_number word bytes rest digits left n is parted same =
     is ∙ ap (λ (l : List ℕ). word ++ l) (parted ∙ ap (λ (l : List ℕ). l ++ 10 ∷ left) same) ∙ sym (number_parts word (decimal n) left)
 
 pub empty_number : (digits : List ℕ) → eqb (length digits) 0 ≡ true → IsNoNumber digits Torn
-empty_number [] none = (0, (let wide : IsWide 0 = omega arith in wide), decimal 0, refl)
+empty_number [] none = (0, (let wide : FitsNumber 0 = omega arith in wide), decimal 0, refl)
 empty_number (d ∷ ds) none = (let zero : length (d ∷ ds) ≡ 0 = eqb-true (length (d ∷ ds)) 0 none in absurd (omega arith))
 
 pub some_digits : (digits : List ℕ) → eqb (length digits) 0 ≡ false → 0 < length digits

@@ -7,7 +7,7 @@ use Rattle.std.proofs.lemmas.List.{append_cancel_left, drop_more, take-append-dr
 use Rattle.teco_journal.specs.HeadFaults.{Differ, IsCutOff, Fails}
 use Rattle.teco_journal.specs.declared.head_reader.HeadFault.{HeadFault}
 use Rattle.teco_journal.specs.declared.head_reader.HeadFault.TheVariants.{Version, Torn, Changed}
-use Rattle.teco_journal.specs.Heads.{Origin, HasHead, IsWide, IsDepth, IsInput, number_line, depth_line, input_lines, start_lines}
+use Rattle.teco_journal.specs.Heads.{Beginning, HasHead, FitsNumber, FitsDepth, FitsInput, number_line, depth_line, input_lines, start_lines}
 use Rattle.teco_journal.proofs.Lacking.{lacks, first_lacks, other_byte}
 use Rattle.teco_journal.proofs.EventWords.{decimal_lacks}
 use Rattle.teco_journal.proofs.Cuts.{found_then, cut_more, cut_then, differ_more}
@@ -17,25 +17,25 @@ no_dash : (ds x y : List ℕ) → lacks 45 ds ≡ true → 45 ∷ x ≡ ds ++ 10
 no_dash [] x y h e = absurd (cc)
 no_dash (d ∷ ds) x y h e = (let same : d ≡ 45 = cc in other_byte d 45 (first_lacks 45 d ds h) same)
 
-dash_differs : (n : ℕ) (x y : List ℕ) → IsWide n → codes "depth -\n" ++ x ≡ number_line (codes "depth ") n ++ y → ⊥
+dash_differs : (n : ℕ) (x y : List ℕ) → FitsNumber n → codes "depth -\n" ++ x ≡ number_line (codes "depth ") n ++ y → ⊥
 dash_differs n x y wide e =
     no_dash (decimal n) (10 ∷ x) y (decimal_lacks 45 n (omega arith) wide)
     (append_cancel_left (codes "depth ") (45 ∷ 10 ∷ x) (decimal n ++ 10 ∷ y) (e ∙ number_parts (codes "depth ") (decimal n) y))
 
 -- A line of a depth tells one,
-pub depth_lines_same : (a b : Option ℕ) (x y : List ℕ) → IsDepth a → IsDepth b → depth_line a ++ x ≡ depth_line b ++ y → (a ≡ b) × (x ≡ y)
+pub depth_lines_same : (a b : Option ℕ) (x y : List ℕ) → FitsDepth a → FitsDepth b → depth_line a ++ x ≡ depth_line b ++ y → (a ≡ b) × (x ≡ y)
 depth_lines_same (Some m) (Some n) x y p q e = (let same = number_lines_same (codes "depth ") m n x y p q e in (ap Some same.0, same.1))
 depth_lines_same (Some m) None x y p q e = absurd (dash_differs m y x p (sym e))
 depth_lines_same None (Some n) x y p q e = absurd (dash_differs n x y q e)
 depth_lines_same None None x y p q e = (refl, ap (drop 8) e)
 
-depth_differs : (bytes : List ℕ) → Differ (codes "depth -\n") bytes → Fails IsWide (number_line (codes "depth ")) bytes Changed
-    → (depth : Option ℕ) → IsDepth depth → Differ (depth_line depth) bytes
+depth_differs : (bytes : List ℕ) → Differ (codes "depth -\n") bytes → Fails FitsNumber (number_line (codes "depth ")) bytes Changed
+    → (depth : Option ℕ) → FitsDepth depth → Differ (depth_line depth) bytes
 depth_differs bytes none some (Some n) fits = some n fits
 depth_differs bytes none some None fits = none
 
-pub depth_fails : (bytes : List ℕ) (fault : HeadFault) → Differ (codes "depth -\n") bytes → Fails IsWide (number_line (codes "depth ")) bytes fault
-    → Fails IsDepth depth_line bytes fault
+pub depth_fails : (bytes : List ℕ) (fault : HeadFault) → Differ (codes "depth -\n") bytes → Fails FitsNumber (number_line (codes "depth ")) bytes fault
+    → Fails FitsDepth depth_line bytes fault
 depth_fails bytes Torn none h = (Some h.0, h.1, h.2)
 depth_fails bytes Changed none h = depth_differs bytes none h
 depth_fails bytes Version none h = h
@@ -48,18 +48,18 @@ same_fronts ks bs x y long e = (
 )
 
 -- and lines of an input tell one.
-pub input_lines_same : (a b x y : List ℕ) → IsInput a → IsInput b → input_lines a ++ x ≡ input_lines b ++ y → (a ≡ b) × (x ≡ y)
+pub input_lines_same : (a b x y : List ℕ) → FitsInput a → FitsInput b → input_lines a ++ x ≡ input_lines b ++ y → (a ≡ b) × (x ≡ y)
 input_lines_same a b x y p q e =
     let first = number_lines_same (codes "input ") (length a) (length b) (a ++ 10 ∷ x) (b ++ 10 ∷ y) p q
     (sym (number_parts (number_line (codes "input ") (length a)) a x) ∙ e ∙ number_parts (number_line (codes "input ") (length b)) b y) in
     let then = same_fronts a b (10 ∷ x) (10 ∷ y) first.0 first.1 in
     (then.0, ap (drop 1) then.1)
 
-pub input_uncounted : (bytes : List ℕ) (fault : HeadFault) → Fails IsWide (number_line (codes "input ")) bytes fault → Fails IsInput input_lines bytes fault
+pub input_uncounted : (bytes : List ℕ) (fault : HeadFault) → Fails FitsNumber (number_line (codes "input ")) bytes fault → Fails FitsInput input_lines bytes fault
 input_uncounted bytes Torn h =
     let long : length (replicate h.0 0) ≡ h.0 = length-replicate h.0 0 in (
       replicate h.0 0,
-      subst IsWide (sym long) h.1,
+      subst FitsNumber (sym long) h.1,
       cut_more (number_line (codes "input ") (length (replicate h.0 0)) ++ replicate h.0 0) (10 ∷ []) bytes
           (cut_more (number_line (codes "input ") (length (replicate h.0 0))) (replicate h.0 0) bytes
           (subst (λ (n : ℕ). IsCutOff bytes (number_line (codes "input ") n)) (sym long) h.2)),
@@ -69,7 +69,7 @@ input_uncounted bytes Changed h = λ input fits.
     (differ_more (number_line (codes "input ") (length input)) input bytes (h (length input) fits))
 input_uncounted bytes Version h = h
 
-pub input_cut_off : (bytes rest : List ℕ) (n : ℕ) → IsWide n → bytes ≡ number_line (codes "input ") n ++ rest → length rest ≤ n → Fails IsInput input_lines bytes Torn
+pub input_cut_off : (bytes rest : List ℕ) (n : ℕ) → FitsNumber n → bytes ≡ number_line (codes "input ") n ++ rest → length rest ≤ n → Fails FitsInput input_lines bytes Torn
 input_cut_off bytes rest n wide is short =
     let pad : List ℕ = replicate (n - length rest) 0 in
     let padded : length pad ≡ n - length rest = length-replicate (n - length rest) 0 in
@@ -77,7 +77,7 @@ input_cut_off bytes rest n wide is short =
     let more : List ℕ = pad ++ 10 ∷ [] in
     let line : List ℕ = number_line (codes "input ") n in (
       rest ++ pad,
-      subst IsWide (sym long) wide,
+      subst FitsNumber (sym long) wide,
       (
         more,
         (let both = length-append pad (10 ∷ []) in omega (arith, both)),
@@ -87,8 +87,8 @@ input_cut_off bytes rest n wide is short =
       ),
     )
 
-pub input_unended : (bytes rest : List ℕ) (n : ℕ) → IsWide n → bytes ≡ number_line (codes "input ") n ++ rest → n < length rest → (get_or rest n 0 ≡ 10 → ⊥)
-    → Fails IsInput input_lines bytes Changed
+pub input_unended : (bytes rest : List ℕ) (n : ℕ) → FitsNumber n → bytes ≡ number_line (codes "input ") n ++ rest → n < length rest → (get_or rest n 0 ≡ 10 → ⊥)
+    → Fails FitsInput input_lines bytes Changed
 input_unended bytes rest n wide is less other = λ input fits x y e.
     (let same = number_lines_same (codes "input ") (length input) n (input ++ 10 ∷ x) (rest ++ y) fits wide
     (sym (number_parts (number_line (codes "input ") (length input)) input x) ∙ e ∙ ap (λ (l : List ℕ). l ++ y) is ∙ append_assoc (number_line (codes "input ") n) rest y) in
@@ -113,24 +113,24 @@ lines_line n = number_line (codes "lines ") n
 start_parts : (a b c x : List ℕ) → ((a ++ b) ++ c) ++ x ≡ a ++ (b ++ (c ++ x))
 start_parts a b c x = append_assoc (a ++ b) c x ∙ append_assoc a b (c ++ x)
 
-origin_is : (l m : ℕ) (d e : Option ℕ) (i j : List ℕ) → l ≡ m → d ≡ e → i ≡ j
-    → (let a : Origin = record { lines = l; depth = d; input = i } in
-    let b : Origin = record { lines = m; depth = e; input = j } in a ≡ b)
-origin_is l m d e i j p q r = cc
+beginning_is : (l m : ℕ) (d e : Option ℕ) (i j : List ℕ) → l ≡ m → d ≡ e → i ≡ j
+    → (let a : Beginning = record { lines = l; depth = d; input = i } in
+    let b : Beginning = record { lines = m; depth = e; input = j } in a ≡ b)
+beginning_is l m d e i j p q r = cc
 
-pub start_lines_same : (a b : Origin) (x y : List ℕ) → HasHead a → HasHead b → start_lines a ++ x ≡ start_lines b ++ y → (a ≡ b) × (x ≡ y)
+pub start_lines_same : (a b : Beginning) (x y : List ℕ) → HasHead a → HasHead b → start_lines a ++ x ≡ start_lines b ++ y → (a ≡ b) × (x ≡ y)
 start_lines_same a b x y p q e =
     let first = number_lines_same (codes "lines ") a.lines b.lines (depth_line a.depth ++ (input_lines a.input ++ x)) (depth_line b.depth ++ (input_lines b.input ++ y)) p.0 q.0
     (sym (start_parts (lines_line a.lines) (depth_line a.depth) (input_lines a.input) x) ∙ e ∙ start_parts (lines_line b.lines) (depth_line b.depth) (input_lines b.input) y) in
     let second = depth_lines_same a.depth b.depth (input_lines a.input ++ x) (input_lines b.input ++ y) p.1 q.1 first.1 in
     let third = input_lines_same a.input b.input x y p.2 q.2 second.1 in
-    (origin_is a.lines b.lines a.depth b.depth a.input b.input first.0 second.0 third.0, third.1)
+    (beginning_is a.lines b.lines a.depth b.depth a.input b.input first.0 second.0 third.0, third.1)
 
-pub fails_at_lines : (bytes : List ℕ) (fault : HeadFault) → Fails IsWide (number_line (codes "lines ")) bytes fault → Fails HasHead start_lines bytes fault
+pub fails_at_lines : (bytes : List ℕ) (fault : HeadFault) → Fails FitsNumber (number_line (codes "lines ")) bytes fault → Fails HasHead start_lines bytes fault
 fails_at_lines bytes Torn h =
-    let origin : Origin = record { lines = h.0; depth = None; input = [] } in (
-      origin,
-      (h.1, tt, (let wide : IsWide 0 = omega arith in wide)),
+    let beginning : Beginning = record { lines = h.0; depth = None; input = [] } in (
+      beginning,
+      (h.1, tt, (let wide : FitsNumber 0 = omega arith in wide)),
       cut_more (lines_line h.0 ++ depth_line None) (input_lines []) bytes (cut_more (lines_line h.0) (depth_line None) bytes h.2),
     )
 fails_at_lines bytes Changed h = λ o fits.
@@ -138,28 +138,28 @@ fails_at_lines bytes Changed h = λ o fits.
     (differ_more (lines_line o.lines) (depth_line o.depth) bytes (h o.lines fits.0))
 fails_at_lines bytes Version h = h
 
-after_lines : (bytes rest : List ℕ) (n : ℕ) (o : Origin) (x y : List ℕ) → IsWide n → HasHead o → bytes ≡ lines_line n ++ rest → start_lines o ++ x ≡ bytes ++ y
+after_lines : (bytes rest : List ℕ) (n : ℕ) (o : Beginning) (x y : List ℕ) → FitsNumber n → HasHead o → bytes ≡ lines_line n ++ rest → start_lines o ++ x ≡ bytes ++ y
     → depth_line o.depth ++ (input_lines o.input ++ x) ≡ rest ++ y
 after_lines bytes rest n o x y wide fits is e =
     (number_lines_same (codes "lines ") o.lines n (depth_line o.depth ++ (input_lines o.input ++ x)) (rest ++ y) fits.0 wide
     (sym (start_parts (lines_line o.lines) (depth_line o.depth) (input_lines o.input) x) ∙ e ∙ ap (λ (l : List ℕ). l ++ y) is ∙ append_assoc (lines_line n) rest y)).1
 
-pub fails_at_depth : (bytes rest : List ℕ) (n : ℕ) (fault : HeadFault) → IsWide n → bytes ≡ number_line (codes "lines ") n ++ rest → Fails IsDepth depth_line rest fault
+pub fails_at_depth : (bytes rest : List ℕ) (n : ℕ) (fault : HeadFault) → FitsNumber n → bytes ≡ number_line (codes "lines ") n ++ rest → Fails FitsDepth depth_line rest fault
     → Fails HasHead start_lines bytes fault
 fails_at_depth bytes rest n Torn wide is h =
-    let origin : Origin = record { lines = n; depth = h.0; input = [] } in (
-      origin,
-      (wide, h.1, (let none : IsWide 0 = omega arith in none)),
+    let beginning : Beginning = record { lines = n; depth = h.0; input = [] } in (
+      beginning,
+      (wide, h.1, (let none : FitsNumber 0 = omega arith in none)),
       cut_more (lines_line n ++ depth_line h.0) (input_lines []) bytes (cut_then (lines_line n) (depth_line h.0) bytes rest is h.2),
     )
 fails_at_depth bytes rest n Changed wide is h = λ o fits x y e. h o.depth fits.1 (input_lines o.input ++ x) y (after_lines bytes rest n o x y wide fits is e)
 fails_at_depth bytes rest n Version wide is h = h
 
-pub fails_at_input : (bytes rest left : List ℕ) (n : ℕ) (depth : Option ℕ) (fault : HeadFault) → IsWide n → IsDepth depth
-    → bytes ≡ number_line (codes "lines ") n ++ rest → rest ≡ depth_line depth ++ left → Fails IsInput input_lines left fault → Fails HasHead start_lines bytes fault
+pub fails_at_input : (bytes rest left : List ℕ) (n : ℕ) (depth : Option ℕ) (fault : HeadFault) → FitsNumber n → FitsDepth depth
+    → bytes ≡ number_line (codes "lines ") n ++ rest → rest ≡ depth_line depth ++ left → Fails FitsInput input_lines left fault → Fails HasHead start_lines bytes fault
 fails_at_input bytes rest left n depth Torn wide deep is there h =
-    let origin : Origin = record { lines = n; depth = depth; input = h.0 } in (
-      origin,
+    let beginning : Beginning = record { lines = n; depth = depth; input = h.0 } in (
+      beginning,
       (wide, deep, h.1),
       cut_then (lines_line n ++ depth_line depth) (input_lines h.0) bytes left (found_then (lines_line n) (depth_line depth) bytes rest left is there) h.2,
     )
@@ -170,6 +170,6 @@ fails_at_input bytes rest left n depth Changed wide deep is there h = λ o fits 
 fails_at_input bytes rest left n depth Version wide deep is there h = h
 
 pub start_found : (bytes rest left last input : List ℕ) (n : ℕ) (depth : Option ℕ) → bytes ≡ number_line (codes "lines ") n ++ rest → rest ≡ depth_line depth ++ left
-    → left ≡ input_lines input ++ last → (let o : Origin = record { lines = n; depth = depth; input = input } in bytes ≡ start_lines o ++ last)
+    → left ≡ input_lines input ++ last → (let o : Beginning = record { lines = n; depth = depth; input = input } in bytes ≡ start_lines o ++ last)
 start_found bytes rest left last input n depth a b c =
     found_then (lines_line n ++ depth_line depth) (input_lines input) bytes left last (found_then (lines_line n) (depth_line depth) bytes rest left a b) c

@@ -2,7 +2,7 @@
 use Rattle.std.specs.Prelude.{◌≡◌, ◌≢◌, ℕ, ◌<◌, List, ◌++◌, length, decimal}
 use Rattle.teco_journal.specs.declared.head_reader.HeadFault.{HeadFault}
 use Rattle.teco_journal.specs.declared.head_reader.HeadFault.TheVariants.{Version, Torn, Changed}
-use Rattle.teco_journal.specs.Heads.{Origin, HasHead, IsWide, version, whole_head}
+use Rattle.teco_journal.specs.Heads.{Beginning, HasHead, FitsNumber, version, whole_head}
 use Rattle.teco_journal.specs.Reading.{Begins}
 
 -- Whatever comes after these bytes and those, they are not the same: neither is a front of the other.
@@ -31,17 +31,17 @@ Fails Fits word_of bytes Version = ⊥
 
 -- why a line that ends nowhere is none of a number
 abbrev pub IsNoNumber : List ℕ → HeadFault → Type 0
-IsNoNumber digits Torn = (n : ℕ) × IsWide n × (more : List ℕ) × (decimal n ≡ digits ++ more)
-IsNoNumber digits Changed = (n : ℕ) (more : List ℕ) → IsWide n → decimal n ≢ digits ++ more
+IsNoNumber digits Torn = (n : ℕ) × FitsNumber n × (more : List ℕ) × (decimal n ≡ digits ++ more)
+IsNoNumber digits Changed = (n : ℕ) (more : List ℕ) → FitsNumber n → decimal n ≢ digits ++ more
 IsNoNumber digits Version = ⊥
 
 -- No head stands at the front.
 abbrev pub HasNoHead : List ℕ → Type 0
-HasNoHead bytes = (origin : Origin) → HasHead origin → Begins (whole_head origin) bytes → ⊥
+HasNoHead bytes = (beginning : Beginning) → HasHead beginning → Begins (whole_head beginning) bytes → ⊥
 
 -- Version: neither do they begin with the line of the version, nor are they a front of it. Torn: they are a front of a head, and end
 -- before it does. Changed: they begin with that line, and are no front of a head.
-abbrev pub IsRefused : List ℕ → HeadFault → Type 0
-IsRefused bytes Version = Differ version bytes
-IsRefused bytes Torn = (origin : Origin) × HasHead origin × IsCutOff bytes (whole_head origin)
-IsRefused bytes Changed = Begins version bytes × ((origin : Origin) → HasHead origin → Differ (whole_head origin) bytes)
+abbrev pub HeadFails : List ℕ → HeadFault → Type 0
+HeadFails bytes Version = Differ version bytes
+HeadFails bytes Torn = (beginning : Beginning) × HasHead beginning × IsCutOff bytes (whole_head beginning)
+HeadFails bytes Changed = Begins version bytes × ((beginning : Beginning) → HasHead beginning → Differ (whole_head beginning) bytes)

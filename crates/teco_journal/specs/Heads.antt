@@ -5,28 +5,28 @@ use Rattle.teco_journal.specs.Events.{Event}
 use Rattle.teco_journal.specs.Lines.{check_of, line_of, written}
 
 -- What a session begins with: the lines of a page, the depth of its history, and its input.
-pub record Origin : Type 0 where
+pub record Beginning : Type 0 where
   pub lines : ℕ
   pub depth : Option ℕ
   pub input : List ℕ
 
-abbrev pub origin_of : Start → Origin
-origin_of start = record { lines = start.lines; depth = start.depth; input = start.input.now }
+abbrev pub beginning_in : Start → Beginning
+beginning_in start = record { lines = start.lines; depth = start.depth; input = start.input.now }
 
 -- A number of 64 bits, a depth of so many or none, and an input whose length is one.
-abbrev pub IsWide : ℕ → Type 0
-IsWide n = n < 2 ^ 64
+abbrev pub FitsNumber : ℕ → Type 0
+FitsNumber n = n < 2 ^ 64
 
-abbrev pub IsDepth : Option ℕ → Type 0
-IsDepth (Some depth) = IsWide depth
-IsDepth None = Unit {0}
+abbrev pub FitsDepth : Option ℕ → Type 0
+FitsDepth (Some depth) = FitsNumber depth
+FitsDepth None = Unit {0}
 
-abbrev pub IsInput : List ℕ → Type 0
-IsInput input = IsWide (length input)
+abbrev pub FitsInput : List ℕ → Type 0
+FitsInput input = FitsNumber (length input)
 
 -- A head can tell it.
-abbrev pub HasHead : Origin → Type 0
-HasHead origin = IsWide origin.lines × IsDepth origin.depth × IsInput origin.input
+abbrev pub HasHead : Beginning → Type 0
+HasHead beginning = FitsNumber beginning.lines × FitsDepth beginning.depth × FitsInput beginning.input
 
 abbrev pub number_line : List ℕ → ℕ → List ℕ
 number_line word n = word ++ decimal n ++ codes "\n"
@@ -40,26 +40,26 @@ depth_line None = codes "depth -\n"
 abbrev pub input_lines : List ℕ → List ℕ
 input_lines input = number_line (codes "input ") (length input) ++ input ++ codes "\n"
 
-abbrev pub start_lines : Origin → List ℕ
-start_lines origin = number_line (codes "lines ") origin.lines ++ depth_line origin.depth ++ input_lines origin.input
+abbrev pub start_lines : Beginning → List ℕ
+start_lines beginning = number_line (codes "lines ") beginning.lines ++ depth_line beginning.depth ++ input_lines beginning.input
 
 abbrev pub version : List ℕ
 version = codes "teco session 1\n"
 
-unfoldable pub head_of : Origin → List ℕ
-head_of origin = version ++ start_lines origin
+unfoldable pub head_of : Beginning → List ℕ
+head_of beginning = version ++ start_lines beginning
 
 -- the words of the last line of a head
 abbrev pub begun : List ℕ
 begun = codes "begun\n"
 
 -- The last line has a check of all the head before it, which is the last check for the first record.
-abbrev pub first_check : Origin → List ℕ
-first_check origin = check_of (head_of origin) begun
+abbrev pub first_check : Beginning → List ℕ
+first_check beginning = check_of (head_of beginning) begun
 
-abbrev pub whole_head : Origin → List ℕ
-whole_head origin = head_of origin ++ line_of (head_of origin) begun
+abbrev pub whole_head : Beginning → List ℕ
+whole_head beginning = head_of beginning ++ line_of (head_of beginning) begun
 
 -- what the file of a session holds
-abbrev pub file_of : Origin → List Event → List ℕ
-file_of origin events = whole_head origin ++ written (first_check origin) events
+abbrev pub file_of : Beginning → List Event → List ℕ
+file_of beginning events = whole_head beginning ++ written (first_check beginning) events

@@ -1,6 +1,6 @@
 //! Writing the head of a session's file.
 ghost use Rattle.std.specs.Prelude.{◌≡◌, ◌++◌, OnOk, IfOk};
-ghost use Rattle.teco_journal.specs.Heads.{depth_line, first_check, head_of, input_lines, number_line, origin_of, start_lines, whole_head};
+ghost use Rattle.teco_journal.specs.Heads.{depth_line, first_check, head_of, input_lines, number_line, beginning_in, start_lines, whole_head};
 
 use crate::check::{CHECK_LENGTH, check_of};
 use crate::numbers::push_number;
@@ -44,7 +44,7 @@ fn push_input_lines(out: &mut Vec<u8>, input: &[u8]) -> Result<(), NoMemory>
 }
 
 fn push_start_lines(out: &mut Vec<u8>, start: Start<'_>) -> Result<(), NoMemory>
-    ensures { OnOk result (out.new.items ≡ out.old.items ++ start_lines (origin_of start.entry)) }
+    ensures { OnOk result (out.new.items ≡ out.old.items ++ start_lines (beginning_in start.entry)) }
 {
     push_number_line(out, b"lines ", start.lines as u64)?;
     push_depth_line(out, start.depth)?;
@@ -53,7 +53,7 @@ fn push_start_lines(out: &mut Vec<u8>, start: Start<'_>) -> Result<(), NoMemory>
 
 /// Puts a head without its last line.
 fn push_head(out: &mut Vec<u8>, start: Start<'_>) -> Result<(), NoMemory>
-    ensures { OnOk result (out.new.items ≡ out.old.items ++ head_of (origin_of start.entry)) }
+    ensures { OnOk result (out.new.items ≡ out.old.items ++ head_of (beginning_in start.entry)) }
 {
     out.extend_from_slice(b"teco session 1\n")?;
     push_start_lines(out, start)
@@ -61,8 +61,8 @@ fn push_head(out: &mut Vec<u8>, start: Start<'_>) -> Result<(), NoMemory>
 
 /// The head of the file of a session that begins so.
 pub fn new_head(alloc: Global, start: Start<'_>) -> Result<NewHead, NoMemory>
-    ensures bytes { IfOk result (λ head. head.bytes.items ≡ whole_head (origin_of start.entry)) }
-    ensures check { IfOk result (λ head. head.check ≡ first_check (origin_of start.entry)) }
+    ensures bytes { IfOk result (λ head. head.bytes.items ≡ whole_head (beginning_in start.entry)) }
+    ensures check { IfOk result (λ head. head.check ≡ first_check (beginning_in start.entry)) }
 {
     let mut bytes = Vec::new(alloc);
     push_head(&mut bytes, start)?;

@@ -1,7 +1,7 @@
 //! Reading the head of a session's file. It takes no memory.
 ghost use Rattle.std.specs.Prelude.{◌≡◌, ◌++◌, IfErr, IfOk, MatchResult, OnErr, codes};
-ghost use Rattle.teco_journal.specs.Heads.{HasHead, IsDepth, IsInput, IsWide, depth_line, first_check, input_lines, number_line, origin_of, start_lines, version, whole_head};
-ghost use Rattle.teco_journal.specs.HeadFaults.{Fails, FailsAt, HasNoHead, IsNoNumber, IsNoVersion, IsRefused};
+ghost use Rattle.teco_journal.specs.Heads.{HasHead, FitsDepth, FitsInput, FitsNumber, depth_line, first_check, input_lines, number_line, beginning_in, start_lines, version, whole_head};
+ghost use Rattle.teco_journal.specs.HeadFaults.{Fails, FailsAt, HasNoHead, IsNoNumber, IsNoVersion, HeadFails};
 
 use crate::check::{CHECK_LENGTH, check_of};
 use crate::numbers::exact_number;
@@ -69,8 +69,8 @@ fn fault_in_number(digits: &[u8]) -> HeadFault
 
 /// The number after a word, and what comes after its line.
 fn number_after<'a>(word: &[u8], bytes: &'a [u8]) -> Result<(u64, &'a [u8]), HeadFault>
-    ensures { MatchResult result (λ found. IsWide found.0 × (bytes.now ≡ number_line word.now found.0 ++ found.1.now))
-        (Fails IsWide (number_line word.now) bytes.now) }
+    ensures { MatchResult result (λ found. FitsNumber found.0 × (bytes.now ≡ number_line word.now found.0 ++ found.1.now))
+        (Fails FitsNumber (number_line word.now) bytes.now) }
 {
     let rest = after(word, bytes)?;
     let Some(end) = memchr(b'\n', rest) else {
@@ -84,8 +84,8 @@ fn number_after<'a>(word: &[u8], bytes: &'a [u8]) -> Result<(u64, &'a [u8]), Hea
 
 /// The depth, and what comes after its line.
 fn depth_after(bytes: &[u8]) -> Result<(Option<usize>, &[u8]), HeadFault>
-    ensures { MatchResult result (λ found. IsDepth found.0 × (bytes.now ≡ depth_line found.0 ++ found.1.now))
-        (Fails IsDepth depth_line bytes.now) }
+    ensures { MatchResult result (λ found. FitsDepth found.0 × (bytes.now ≡ depth_line found.0 ++ found.1.now))
+        (Fails FitsDepth depth_line bytes.now) }
 {
     match after(b"depth -\n", bytes) {
         Ok(rest) => Ok((None, rest)),
@@ -99,8 +99,8 @@ fn depth_after(bytes: &[u8]) -> Result<(Option<usize>, &[u8]), HeadFault>
 
 /// The input, and what comes after its lines.
 fn input_after(bytes: &[u8]) -> Result<(&[u8], &[u8]), HeadFault>
-    ensures { MatchResult result (λ found. IsInput found.0.now × (bytes.now ≡ input_lines found.0.now ++ found.1.now))
-        (Fails IsInput input_lines bytes.now) }
+    ensures { MatchResult result (λ found. FitsInput found.0.now × (bytes.now ≡ input_lines found.0.now ++ found.1.now))
+        (Fails FitsInput input_lines bytes.now) }
 {
     let (length, rest) = number_after(b"input ", bytes)?;
     let length = length as usize;
@@ -115,7 +115,7 @@ fn input_after(bytes: &[u8]) -> Result<(&[u8], &[u8]), HeadFault>
 
 /// What a session begins with, and what comes after the lines that tell this.
 fn start_after(bytes: &[u8]) -> Result<(Start<'_>, &[u8]), HeadFault>
-    ensures { MatchResult result (λ found. HasHead (origin_of found.0) × (bytes.now ≡ start_lines (origin_of found.0) ++ found.1.now))
+    ensures { MatchResult result (λ found. HasHead (beginning_in found.0) × (bytes.now ≡ start_lines (beginning_in found.0) ++ found.1.now))
         (Fails HasHead start_lines bytes.now) }
 {
     let (lines, rest) = number_after(b"lines ", bytes)?;
@@ -140,11 +140,11 @@ fn after_begun<'a>(check: &[u8; CHECK_LENGTH], bytes: &'a [u8]) -> Result<&'a [u
 
 /// Reads the head that some bytes begin with.
 pub fn read_head(bytes: &[u8]) -> Result<Head<'_>, HeadFault>
-    ensures head { IfOk result (λ head. bytes.now ≡ whole_head (origin_of head.start) ++ head.rest.now) }
-    ensures check { IfOk result (λ head. head.check ≡ first_check (origin_of head.start)) }
-    ensures fits { IfOk result (λ head. HasHead (origin_of head.start)) }
+    ensures head { IfOk result (λ head. bytes.now ≡ whole_head (beginning_in head.start) ++ head.rest.now) }
+    ensures check { IfOk result (λ head. head.check ≡ first_check (beginning_in head.start)) }
+    ensures fits { IfOk result (λ head. HasHead (beginning_in head.start)) }
     ensures none { OnErr result (HasNoHead bytes.now) }
-    ensures fault { IfErr result (IsRefused bytes.now) }
+    ensures fault { IfErr result (HeadFails bytes.now) }
 {
     let rest = after_version(bytes)?;
     let (start, rest) = start_after(rest)?;

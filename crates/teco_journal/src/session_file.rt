@@ -3,8 +3,8 @@ ghost use Rattle.std.specs.Prelude.{◌≡◌, ◌++◌, IfErr, IfOk, drop, leng
 ghost use Rattle.teco_journal.specs.Events.{events_of};
 ghost use Rattle.teco_journal.specs.Lines.{check_after};
 ghost use Rattle.teco_journal.specs.Reading.{EndsAs};
-ghost use Rattle.teco_journal.specs.Heads.{file_of, first_check, origin_of};
-ghost use Rattle.teco_journal.specs.Files.{Holds, IsUnread};
+ghost use Rattle.teco_journal.specs.Heads.{file_of, first_check, beginning_in};
+ghost use Rattle.teco_journal.specs.Files.{Holds, FileFails};
 
 use crate::head_reader::{HeadFault, read_head};
 use crate::reader::{Journal, read_journal};
@@ -53,15 +53,15 @@ impl From<NoMemory> for SessionFault {
 
 /// Reads the file of a session: its head, and the records after it as `read_journal` reads them.
 pub fn read_session(alloc: Global, bytes: &[u8]) -> Result<SessionFile<'_>, SessionFault>
-    ensures holds { IfOk result (λ file. Holds bytes.now (origin_of file.start) (events_of file.journal.records.items)) }
+    ensures holds { IfOk result (λ file. Holds bytes.now (beginning_in file.start) (events_of file.journal.records.items)) }
     ensures front { IfOk result (λ file. bytes.now
-        ≡ file_of (origin_of file.start) (events_of file.journal.records.items) ++ drop file.journal.good bytes.now) }
+        ≡ file_of (beginning_in file.start) (events_of file.journal.records.items) ++ drop file.journal.good bytes.now) }
     ensures good { IfOk result (λ file. file.journal.good
-        ≡ length (file_of (origin_of file.start) (events_of file.journal.records.items))) }
+        ≡ length (file_of (beginning_in file.start) (events_of file.journal.records.items))) }
     ensures check { IfOk result (λ file. file.journal.check
-        ≡ check_after (first_check (origin_of file.start)) (events_of file.journal.records.items)) }
+        ≡ check_after (first_check (beginning_in file.start)) (events_of file.journal.records.items)) }
     ensures ending { IfOk result (λ file. EndsAs file.journal.check (drop file.journal.good bytes.now) file.journal.ending) }
-    ensures fault { IfErr result (IsUnread bytes.now) }
+    ensures fault { IfErr result (FileFails bytes.now) }
 {
     let head = read_head(bytes)?;
     let mut journal = read_journal(alloc, head.check, head.rest)?;

@@ -1,6 +1,6 @@
 use Rattle.std.proofs.Common.{◌≡◌, ◌+◌, ◌<◌, ◌≤◌, ℕ, List, ◌++◌, length, take, get_or, arith, sym, ap, ◌∙◌, subst}
 use Rattle.std.proofs.lemmas.List.{length-take-le, take_rest}
-use Rattle.teco_journal.specs.Heads.{IsWide, input_lines}
+use Rattle.teco_journal.specs.Heads.{FitsNumber, input_lines}
 use Rattle.std.proofs.lemmas.Result.{err_from_is_err_and}
 use Rattle.teco_journal.proofs.Cuts.{failed}
 use Rattle.teco_journal.proofs.HeadParts.{input_uncounted, input_cut_off, input_unended, input_found}
@@ -28,6 +28,6 @@ returns c =
     let less : n < length rest = omega arith in
     let end : get_or rest n 0 ≡ 10 = omega arith in
     let long : length (take n rest) ≡ n = length-take-le n rest (omega arith) in (
-      subst IsWide (sym long) c.in_ok-length.ensures.0,
+      subst FitsNumber (sym long) c.in_ok-length.ensures.0,
       input_found c.args.bytes.now rest n c.in_ok-length.ensures.1 less end ∙ ap (λ (l : List ℕ). input_lines (take n rest) ++ l) (sym (take_rest rest (n + 1))),
     )

@@ -1,7 +1,7 @@
 use Rattle.std.proofs.Common.{◌≡◌, ◌++◌, ℕ, List, ap, ◌∙◌}
 use Rattle.std.specs.Prelude.{codes}
 use Rattle.std.proofs.lemmas.Result.{err_from_is_err_and}
-use Rattle.teco_journal.specs.Heads.{Origin, begun, first_check, head_of, origin_of}
+use Rattle.teco_journal.specs.Heads.{Beginning, begun, first_check, head_of, beginning_in}
 use Rattle.teco_journal.specs.Lines.{check_of}
 use Rattle.teco_journal.proofs.Cuts.{failed}
 use Rattle.teco_journal.proofs.WholeHeads.{no_version, no_start, no_last_line, refused_has_none, head_found, head_front, last_line_is, whole_found}
@@ -34,43 +34,43 @@ pub returns-in_err-rest-2-clause-none : goal.returns-in_err-rest-2-clause-none
 returns-in_err-rest-2-clause-none c =
     let bytes = c.args.bytes.now in
     let left = c.in_ok-start.rest.now in
-    let origin : Origin = origin_of c.in_ok-start.start in
+    let beginning : Beginning = beginning_in c.in_ok-start.start in
     let check = c.check_of-check.result in
     let fault = c.in_err-rest-2.field-0.0 in
-    let is : bytes ≡ head_of origin ++ left = head_found bytes c.in_ok-rest.rest.now left origin c.in_ok-rest.ensures c.in_ok-start.ensures.1 in
-    let same : check ≡ first_check origin = c.check_of-check.ensures ∙ ap (λ (l : List ℕ). check_of l begun) (head_front bytes left origin is) in
+    let is : bytes ≡ head_of beginning ++ left = head_found bytes c.in_ok-rest.rest.now left beginning c.in_ok-rest.ensures c.in_ok-start.ensures.1 in
+    let same : check ≡ first_check beginning = c.check_of-check.ensures ∙ ap (λ (l : List ℕ). check_of l begun) (head_front bytes left beginning is) in
     failed c.from_residual-in_err-rest-2.result _ _ fault (err_from_is_err_and c.from_residual-in_err-rest-2.result c.from_residual-in_err-rest-2.ensures.1)
     (refused_has_none bytes fault
-    (no_last_line bytes c.in_ok-rest.rest.now left (check ++ codes " begun\n") origin fault c.in_ok-start.ensures.0 c.in_ok-rest.ensures is
-    (last_line_is origin check same) c.in_err-rest-2.ensures))
+    (no_last_line bytes c.in_ok-rest.rest.now left (check ++ codes " begun\n") beginning fault c.in_ok-start.ensures.0 c.in_ok-rest.ensures is
+    (last_line_is beginning check same) c.in_err-rest-2.ensures))
 
 pub returns-in_err-rest-2-clause-fault : goal.returns-in_err-rest-2-clause-fault
 returns-in_err-rest-2-clause-fault c =
     let bytes = c.args.bytes.now in
     let left = c.in_ok-start.rest.now in
-    let origin : Origin = origin_of c.in_ok-start.start in
+    let beginning : Beginning = beginning_in c.in_ok-start.start in
     let check = c.check_of-check.result in
     let fault = c.in_err-rest-2.field-0.0 in
-    let is : bytes ≡ head_of origin ++ left = head_found bytes c.in_ok-rest.rest.now left origin c.in_ok-rest.ensures c.in_ok-start.ensures.1 in
-    let same : check ≡ first_check origin = c.check_of-check.ensures ∙ ap (λ (l : List ℕ). check_of l begun) (head_front bytes left origin is) in
+    let is : bytes ≡ head_of beginning ++ left = head_found bytes c.in_ok-rest.rest.now left beginning c.in_ok-rest.ensures c.in_ok-start.ensures.1 in
+    let same : check ≡ first_check beginning = c.check_of-check.ensures ∙ ap (λ (l : List ℕ). check_of l begun) (head_front bytes left beginning is) in
     failed c.from_residual-in_err-rest-2.result _ _ fault (err_from_is_err_and c.from_residual-in_err-rest-2.result c.from_residual-in_err-rest-2.ensures.1)
-    (no_last_line bytes c.in_ok-rest.rest.now left (check ++ codes " begun\n") origin fault c.in_ok-start.ensures.0 c.in_ok-rest.ensures is
-    (last_line_is origin check same) c.in_err-rest-2.ensures)
+    (no_last_line bytes c.in_ok-rest.rest.now left (check ++ codes " begun\n") beginning fault c.in_ok-start.ensures.0 c.in_ok-rest.ensures is
+    (last_line_is beginning check same) c.in_err-rest-2.ensures)
 
 pub returns-clause-head : goal.returns-clause-head
 returns-clause-head c =
     let bytes = c.args.bytes.now in
     let left = c.in_ok-start.rest.now in
-    let origin : Origin = origin_of c.in_ok-start.start in
+    let beginning : Beginning = beginning_in c.in_ok-start.start in
     let check = c.check_of-check.result in
-    let is : bytes ≡ head_of origin ++ left = head_found bytes c.in_ok-rest.rest.now left origin c.in_ok-rest.ensures c.in_ok-start.ensures.1 in
-    let same : check ≡ first_check origin = c.check_of-check.ensures ∙ ap (λ (l : List ℕ). check_of l begun) (head_front bytes left origin is) in
-    whole_found bytes left c.in_ok-rest-2.rest.now (check ++ codes " begun\n") origin is (last_line_is origin check same) c.in_ok-rest-2.ensures
+    let is : bytes ≡ head_of beginning ++ left = head_found bytes c.in_ok-rest.rest.now left beginning c.in_ok-rest.ensures c.in_ok-start.ensures.1 in
+    let same : check ≡ first_check beginning = c.check_of-check.ensures ∙ ap (λ (l : List ℕ). check_of l begun) (head_front bytes left beginning is) in
+    whole_found bytes left c.in_ok-rest-2.rest.now (check ++ codes " begun\n") beginning is (last_line_is beginning check same) c.in_ok-rest-2.ensures
 
 pub returns-clause-check : goal.returns-clause-check
 returns-clause-check c =
     let bytes = c.args.bytes.now in
     let left = c.in_ok-start.rest.now in
-    let origin : Origin = origin_of c.in_ok-start.start in
-    let is : bytes ≡ head_of origin ++ left = head_found bytes c.in_ok-rest.rest.now left origin c.in_ok-rest.ensures c.in_ok-start.ensures.1 in
-    c.check_of-check.ensures ∙ ap (λ (l : List ℕ). check_of l begun) (head_front bytes left origin is)
+    let beginning : Beginning = beginning_in c.in_ok-start.start in
+    let is : bytes ≡ head_of beginning ++ left = head_found bytes c.in_ok-rest.rest.now left beginning c.in_ok-rest.ensures c.in_ok-start.ensures.1 in
+    c.check_of-check.ensures ∙ ap (λ (l : List ℕ). check_of l begun) (head_front bytes left beginning is)
