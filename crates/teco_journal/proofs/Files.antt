@@ -1,5 +1,5 @@
 -- The laws of the files.
-use Rattle.std.proofs.Common.{◌≡◌, ℕ, ◌+◌, ◌-◌, ◌≤◌, List, [], ◌∷◌, ◌++◌, length, take, drop, sym, ap, ◌∙◌, subst, arith, append_assoc, length-append, length-drop}
+use Rattle.std.proofs.Common.{◌≡◌, ℕ, ◌+◌, ◌-◌, ◌≤◌, List, [], ◌∷◌, ◌++◌, length, take, drop, sym, ap, ◌∙◌, subst, arith, append_assoc, append-nil, length-append, length-drop}
 use Rattle.std.proofs.Math.Seq.{take-append_seam, take-append-add, drop-append-add}
 use Rattle.std.proofs.lemmas.List.{take-append-le, take-append-drop}
 use Rattle.std.proofs.lemmas.List.Prefix.{front_rest}
@@ -7,7 +7,7 @@ use Rattle.teco_journal.specs.Events.{Event}
 use Rattle.teco_journal.specs.Lines.{words_of, line_of, check_after, written}
 use Rattle.teco_journal.specs.Reading.{Tells}
 use Rattle.teco_journal.specs.Heads.{Beginning, file_of, first_check, whole_head}
-use Rattle.teco_journal.specs.FileLaws.{CutHeadsAreTorn, FilesAreRead, FilesHoldOnce, FrontsHoldFronts, FilesGrow, CutFilesLoseOne}
+use Rattle.teco_journal.specs.FileLaws.{CutHeadsAreTorn, FilesAreRead, FilesHoldOnce, FrontsHoldFronts, FilesBegin, FilesGrow, CutFilesLoseOne}
 use Rattle.teco_journal.proofs.Fronts.{written_one, written_is_read, bytes_tell_once, fronts_tell_fronts, crashes_lose_one}
 use Rattle.teco_journal.proofs.WholeHeads.{whole_heads_same}
 
@@ -50,6 +50,10 @@ fronts_hold_fronts bytes n a b es fs h k =
     let part : Tells (first_check b) (take (length k.rest) (k.rest ++ more)) fs = subst (λ (l : List ℕ). Tells (first_check b) l fs) (sym (take-append_seam k.rest more)) k.tells in
     let rest = fronts_tell_fronts (first_check b) (k.rest ++ more) (length k.rest) es fs all part in
     (same.0, rest.0, rest.1)
+
+pub files_begin : FilesBegin
+unfolding written
+files_begin b = append-nil (whole_head b)
 
 pub files_grow : FilesGrow
 files_grow o es e =

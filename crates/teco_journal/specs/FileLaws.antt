@@ -31,7 +31,10 @@ abbrev pub FrontsHoldFronts : Type 0
 FrontsHoldFronts = (bytes : List ℕ) (n : ℕ) (a b : Beginning) (es fs : List Event) → Holds bytes a es → Holds (take n bytes) b fs
     → (a ≡ b) × (more : List Event) × (es ≡ fs ++ more)
 
--- One event more is one line more.
+-- A file without events is its head, and one event more is one line more.
+abbrev pub FilesBegin : Type 0
+FilesBegin = (beginning : Beginning) → file_of beginning [] ≡ whole_head beginning
+
 abbrev pub FilesGrow : Type 0
 FilesGrow = (beginning : Beginning) (es : List Event) (e : Event)
     → file_of beginning (es ++ e ∷ []) ≡ file_of beginning es ++ line_of (check_after (first_check beginning) es) (words_of e)

@@ -1,6 +1,6 @@
 //! Writing the head of a session's file.
 ghost use Rattle.std.specs.Prelude.{◌≡◌, ◌++◌, OnOk, IfOk};
-ghost use Rattle.teco_journal.specs.Heads.{depth_line, first_check, head_of, input_lines, number_line, beginning_in, start_lines, whole_head};
+ghost use Rattle.teco_journal.specs.Heads.{HasHead, beginning_in, depth_line, first_check, head_of, input_lines, number_line, start_lines, whole_head};
 
 use crate::check::{CHECK_LENGTH, check_of};
 use crate::numbers::push_number;
@@ -63,6 +63,7 @@ fn push_head(out: &mut Vec<u8>, start: Start<'_>) -> Result<(), NoMemory>
 pub fn new_head(alloc: Global, start: Start<'_>) -> Result<NewHead, NoMemory>
     ensures bytes { IfOk result (λ head. head.bytes.items ≡ whole_head (beginning_in start.entry)) }
     ensures check { IfOk result (λ head. head.check ≡ first_check (beginning_in start.entry)) }
+    ensures fits { HasHead (beginning_in start.entry) }
 {
     let mut bytes = Vec::new(alloc);
     push_head(&mut bytes, start)?;

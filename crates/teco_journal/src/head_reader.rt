@@ -1,7 +1,7 @@
 //! Reading the head of a session's file. It takes no memory.
 ghost use Rattle.std.specs.Prelude.{◌≡◌, ◌++◌, IfErr, IfOk, MatchResult, OnErr, codes};
-ghost use Rattle.teco_journal.specs.Heads.{HasHead, FitsDepth, FitsInput, FitsNumber, depth_line, first_check, input_lines, number_line, beginning_in, start_lines, version, whole_head};
-ghost use Rattle.teco_journal.specs.HeadFaults.{Fails, FailsAt, HasNoHead, IsNoNumber, IsNoVersion, HeadFails};
+ghost use Rattle.teco_journal.specs.Heads.{FitsDepth, FitsInput, FitsNumber, HasHead, beginning_in, depth_line, first_check, input_lines, number_line, start_lines, version, whole_head};
+ghost use Rattle.teco_journal.specs.HeadFaults.{Fails, FailsAt, HasNoHead, HeadFails, IsNoNumber, IsNoVersion};
 
 use crate::check::{CHECK_LENGTH, check_of};
 use crate::numbers::exact_number;

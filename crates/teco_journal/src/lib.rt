@@ -1,4 +1,16 @@
 //! The file of a session: what it begins with, and what each request did, as lines that are read again, each with a check of all before it.
+//! So it looks where the input has the lines `one` and `two`, and a string and an undo came:
+//!
+//!     teco session 1
+//!     lines 0
+//!     depth -
+//!     input 8
+//!     one
+//!     two
+//!
+//!     0742fc23a4ee42a0 begun
+//!     3098cc39e0ece123 run 1 Y$$
+//!     9affe36b5c0a6787 undo
 #![tactic(auto)]
 
 mod check;

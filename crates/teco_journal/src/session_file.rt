@@ -3,8 +3,8 @@ ghost use Rattle.std.specs.Prelude.{◌≡◌, ◌++◌, IfErr, IfOk, drop, leng
 ghost use Rattle.teco_journal.specs.Events.{events_of};
 ghost use Rattle.teco_journal.specs.Lines.{check_after};
 ghost use Rattle.teco_journal.specs.Reading.{EndsAs};
-ghost use Rattle.teco_journal.specs.Heads.{file_of, first_check, beginning_in};
-ghost use Rattle.teco_journal.specs.Files.{Holds, FileFails};
+ghost use Rattle.teco_journal.specs.Heads.{beginning_in, file_of, first_check};
+ghost use Rattle.teco_journal.specs.Files.{FileFails, Holds};
 
 use crate::head_reader::{HeadFault, read_head};
 use crate::reader::{Journal, read_journal};
