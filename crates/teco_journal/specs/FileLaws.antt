@@ -22,11 +22,11 @@ abbrev pub FilesAreRead : Type 0
 FilesAreRead = (beginning : Beginning) (torn : List ℕ) (es : List Event) → HasHead beginning → HaveRecords es → is_one_line torn ≡ true
     → Holds (file_of beginning es ++ torn) beginning es
 
--- Bytes hold one start and one list of events.
+-- Bytes hold one beginning and one list of events.
 abbrev pub FilesHoldOnce : Type 0
 FilesHoldOnce = (bytes : List ℕ) (a b : Beginning) (es fs : List Event) → Holds bytes a es → Holds bytes b fs → (a ≡ b) × (es ≡ fs)
 
--- Any front of a file that has its head holds the same start and a front of its events.
+-- Any front of a file that has its head holds the same beginning and a front of its events.
 abbrev pub FrontsHoldFronts : Type 0
 FrontsHoldFronts = (bytes : List ℕ) (n : ℕ) (a b : Beginning) (es fs : List Event) → Holds bytes a es → Holds (take n bytes) b fs
     → (a ≡ b) × (more : List Event) × (es ≡ fs ++ more)

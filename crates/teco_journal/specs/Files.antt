@@ -7,7 +7,7 @@ use Rattle.teco_journal.specs.Reading.{Tells}
 use Rattle.teco_journal.specs.Heads.{Beginning, HasHead, first_check, whole_head}
 use Rattle.teco_journal.specs.HeadFaults.{HeadFails}
 
--- A head with this start stands at the front, and the bytes after it tell these events.
+-- A head with this beginning stands at the front, and the bytes after it tell these events.
 pub record Holds (bytes : List ℕ) (beginning : Beginning) (es : List Event) : Type 0 where
   pub fits : HasHead beginning
   pub rest : List ℕ
