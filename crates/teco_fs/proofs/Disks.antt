@@ -3,7 +3,7 @@ use Rattle.std.proofs.Common.{◌≡◌, ◌≢◌, ◌⊎◌, inl, inr, ℕ, Li
 use Rattle.std.specs.Prelude.{OnOk, OnErr, bytes_eq}
 use Rattle.std.proofs.lemmas.Option.{same_Some}
 use Rattle.std.proofs.lemmas.Slice.Eq.{bytes_eq-Decides}
-use Rattle.teco_fs.specs.Disk.{Appends, Changes, Creates, Files, IsKeepingBy, IsWhole, KeepsAs, LeavesFiles, Passes, Removes, Renames, Same, SameBut}
+use Rattle.teco_fs.specs.Disk.{Appends, AppendsFront, Changes, Creates, Cuts, Files, IsKeepingBy, IsThere, IsWhole, KeepsAs, LeavesFiles, Passes, Removes, Renames, Same, SameBut}
 
 -- at a moment while the draft takes the file's name
 abbrev pub IsRenaming : List ℕ → List ℕ → Files → Files → Type 0
@@ -18,6 +18,17 @@ one_of (Err fault) ok err = inr err
 pub kept_or_same : {file backup : List ℕ} {before now : Files} (temporary : List ℕ) → KeepsAs file backup before now ⊎ Same before now → IsKeepingBy file temporary backup before now
 kept_or_same temporary (inl keeps) = record { backup_is = inr keeps.kept; others = λ name apart other. keeps.others name apart }
 kept_or_same {file} {backup} temporary (inr same) = record { backup_is = inl (same backup); others = λ name apart other. same name }
+
+-- the file was there, or is empty
+pub there_or_same : {name : List ℕ} {before now : Files} → IsThere name before now ⊎ Same before now → Same before now ⊎ Creates name [] before now
+there_or_same (inl (inl there)) = inl there.1
+there_or_same (inl (inr created)) = inr created
+there_or_same (inr same) = inl same
+
+-- it was cut, or all is as it was
+pub cut_or_same : {name : List ℕ} {length : ℕ} {before now : Files} → Cuts name length before now ⊎ Same before now → Same before now ⊎ Cuts name length before now
+cut_or_same (inl cuts) = inr cuts
+cut_or_same (inr same) = inl same
 
 -- files that are as they were have none more
 pub leaves_none : {A E : Type 0} (old new : Files) (draft : List ℕ) (result : Result A E) → OnErr result (Same old new) → OnErr result (Changes (Some old) (Some new) (LeavesFiles draft))
@@ -92,6 +103,13 @@ module _ {name : List ℕ} where
 
   pub others_appended : {bytes : List ℕ} {old new : Option Files} → Changes old new (Appends name bytes) → Changes old new (SameBut name)
   others_appended appends before told = let new_is = appends before told in (new_is.0, new_is.1, new_is.2.others)
+
+  -- a beginning of bytes was put after a file's
+  pub others_front : {bytes : List ℕ} {old new : Option Files} → Changes old new (AppendsFront name bytes) → Changes old new (SameBut name)
+  others_front appends before told = let new_is = appends before told in (new_is.0, new_is.1, new_is.2.2.others)
+
+  pub passes_front : {bytes : List ℕ} {old : Option Files} {a b : Files → Type 0} → Passes old a b (AppendsFront name bytes) → Passes old a b (SameBut name)
+  passes_front moments before told files left = elim (moments before told files left) [ inl was ↦ inl was | inr now ↦ inr now.2.others ]
 
   -- written to, and then written to once more
   pub appends_both : {xs ys : List ℕ} {before mid after : Files} → Appends name xs before mid → Appends name ys mid after → Appends name (xs ++ ys) before after

@@ -1,12 +1,12 @@
 -- What a note more makes of the files that a log tells.
-use Rattle.std.proofs.Common.{◌≡◌, ◌≢◌, ◌⊎◌, inl, inr, ℕ, ◌+◌, ◌<◌, ◌++◌, true, false, List, [], ◌∷◌, length, drop, get_or, Option, Some, None, Result, Ok, Err, refl, ap, sym, subst, ◌∙◌}
+use Rattle.std.proofs.Common.{◌≡◌, ◌≢◌, ◌⊎◌, inl, inr, ℕ, ◌+◌, ◌<◌, ◌++◌, true, false, List, [], ◌∷◌, length, drop, take, get_or, Option, Some, None, Result, Ok, Err, refl, ap, sym, subst, ◌∙◌}
 use Rattle.std.specs.Prelude.{OnOk, OnErr}
 use Rattle.std.specs.Str.{bytes_eq}
 use Rattle.std.proofs.lemmas.Bool.{false_from_ne_true}
-use Rattle.std.proofs.lemmas.List.{drop_more}
+use Rattle.std.proofs.lemmas.List.{append-nil, drop_more, take-append-drop}
 use Rattle.std.proofs.lemmas.Option.{same_Some}
 use Rattle.std.proofs.lemmas.Slice.Eq.{bytes_eq-Decides}
-use Rattle.teco_fs.specs.Disk.{Appends, Creates, Files, KeepsAs, Passes, Removes, Renames, SameBut}
+use Rattle.teco_fs.specs.Disk.{Appends, AppendsFront, Changes, Creates, Cuts, Files, KeepsAs, Passes, Removes, Renames, SameBut}
 use Rattle.teco_fs.specs.FileLog.{FileNote, GrowsByOne, WereOnce, files_of}
 
 -- the note of a call that gives these bytes to a name, or none, and takes another away
@@ -52,6 +52,12 @@ module _ {old new : List FileNote} where
       others = others_noted more;
     }
 
+    pub cuts : {had : List ℕ} {length : ℕ} → files_of old name ≡ Some had → new ≡ noted name name (Some (take length had)) ∷ old → Cuts name length (files_of old) (files_of new)
+    cuts {had} {length} is more = record {
+      whole = λ was there. at_name (noted name name (Some (take length had))) more name refl ∙ ap (λ all. Some (take length all)) (same_Some had was (sym is ∙ there));
+      others = others_noted more;
+    }
+
     pub removes : new ≡ noted name name None ∷ old → Removes name (files_of old) (files_of new)
     removes more = record { gone = at_name (noted name name None) more name refl; others = others_noted more }
 
@@ -68,11 +74,24 @@ module _ {old new : List FileNote} where
     others = λ name not_from not_to. at_other (noted from to bytes) more name not_to not_from;
   }
 
+-- no byte was put after those of a file
+pub appends_none : (name bytes : List ℕ) (files : Files) → AppendsFront name bytes files files
+appends_none name bytes files = ([], (bytes, refl), record { whole = λ had is. is ∙ ap (λ (all : List ℕ). Some all) (sym (append-nil had)); others = λ other apart. refl })
+
+-- files that are told have changed so
+pub changed_by : (old new : Files) (change : Files → Files → Type 0) → change old new → Changes (Some old) (Some new) change
+changed_by old new change is before told = (new, refl, subst (λ files. change files new) (same_Some _ _ told) is)
+
 -- What a call that notes it, or fails, makes of the log and the files.
 module _ {T E : Type 0} (old new : List FileNote) where
   pub grows_by : (note : FileNote) (noting : Result T E) → OnOk noting (new ≡ note ∷ old) → OnErr noting (new ≡ old) → GrowsByOne old new
   grows_by note (Ok done) more same = inr (note, more)
   grows_by note (Err fault) more same = inl same
+
+  pub front_of : (name bytes had : List ℕ) (n : ℕ) (noting : Result T E) → files_of old name ≡ Some had → OnOk noting (new ≡ noted name name (Some (had ++ take n bytes)) ∷ old) → OnErr noting (new ≡ old)
+      → AppendsFront name bytes (files_of old) (files_of new)
+  front_of name bytes had n (Ok done) is more same = (take n bytes, (drop n bytes, sym (take-append-drop n bytes)), appends is more)
+  front_of name bytes had n (Err fault) is more same = subst (λ log. AppendsFront name bytes (files_of old) (files_of log)) (sym same) (appends_none name bytes (files_of old))
 
   pub others_of : (name : List ℕ) (bytes : Option (List ℕ)) (noting : Result T E) → OnOk noting (new ≡ noted name name bytes ∷ old) → OnErr noting (new ≡ old) → SameBut name (files_of old) (files_of new)
   others_of name bytes (Ok done) more same = others_noted more

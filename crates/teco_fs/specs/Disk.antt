@@ -1,7 +1,7 @@
 -- Files by their names, and how a call changes what they hold.
-use Rattle.std.specs.Prelude.{◌≡◌, ◌≢◌, ◌⊎◌, ◌++◌, ℕ, List, Option, Some, None, Result, Ok, Err, true, false}
+use Rattle.std.specs.Prelude.{◌≡◌, ◌≢◌, ◌⊎◌, ◌++◌, ℕ, List, [], take, Option, Some, None, Result, Ok, Err, true, false}
 use Rattle.std.specs.String.{string_bytes}
-use Rattle.teco_io.specs.Terminal.{count_after}
+use Rattle.teco_io.specs.Terminal.{IsFrontOf, count_after}
 use Rattle.teco_fs.specs.declared.target.Target.{Target}
 use Rattle.teco_fs.specs.declared.target.Target.TheVariants as target
 
@@ -25,6 +25,19 @@ pub record Creates (name bytes : List ℕ) (before after : Files) : Type 0 where
 -- The file has these bytes after those that it had.
 pub record Appends (name bytes : List ℕ) (before after : Files) : Type 0 where
   pub whole : (had : List ℕ) → before name ≡ Some had → after name ≡ Some (had ++ bytes)
+  pub others : SameBut name before after
+
+-- The file has these bytes, or a beginning of them, after those that it had.
+abbrev pub AppendsFront : List ℕ → List ℕ → Files → Files → Type 0
+AppendsFront name bytes before after = (front : List ℕ) × IsFrontOf front bytes × Appends name front before after
+
+-- There was a file of this name, and all is as it was; or there was none, and now it has no bytes yet.
+abbrev pub IsThere : List ℕ → Files → Files → Type 0
+IsThere name before after = ((before name ≢ None) × Same before after) ⊎ Creates name [] before after
+
+-- The file has no more than so many of the bytes that it had, from its beginning.
+pub record Cuts (name : List ℕ) (length : ℕ) (before after : Files) : Type 0 where
+  pub whole : (had : List ℕ) → before name ≡ Some had → after name ≡ Some (take length had)
   pub others : SameBut name before after
 
 -- There is no file of this name any more.

@@ -4,7 +4,7 @@ ghost use Rattle.std.specs.Prelude.{◌≡◌, ◌≢◌, ◌⊎◌, ◌++◌, �
 ghost use Rattle.std.specs.declared.io.Error.{Error};
 ghost use Rattle.std.specs.declared.io.ErrorKind.{ErrorKind};
 ghost use Rattle.std.specs.Prelude.{[], None, Some, IfOk, IfSome, IsNone, IsSome, true, false};
-ghost use Rattle.teco_fs.specs.Disk.{Appends, Creates, IsKeepingBy, IsStream, IsTargetOf, KeepsAs, LeavesFiles, Opens, Removes, Renames, Same, SameBut};
+ghost use Rattle.teco_fs.specs.Disk.{Appends, AppendsFront, Creates, Cuts, IsKeepingBy, IsStream, IsTargetOf, IsThere, KeepsAs, LeavesFiles, Opens, Removes, Renames, Same, SameBut};
 ghost use Rattle.teco_fs.specs.State.{DiskState, FilesChange, FilesPass, KeepsFiles, KeepsStreams, KeepsStreamsUntold, Looks, LooksUntold};
 
 use crate::target::Target;
@@ -18,13 +18,13 @@ pub trait Disk {
     /// What a file is read from.
     type Input: Source + Drop;
 
-    /// A new file, open to be written.
+    /// A file that is new or is to be extended, open to be written.
     type Draft: Drop;
 
     // the disk at a moment
     ghost seen: { Self → DiskState };
 
-    // the draft was made under this name
+    // the draft was made or opened under this name
     ghost is_of: { Self.Draft → List ℕ → Type 0 };
 
     /// Opens a file, to be read from its beginning to its end.
@@ -72,13 +72,34 @@ pub trait Disk {
         ensures moments { FilesPass (seen self.old) (seen self.new) (SameBut name.now) }
         ensures still { KeepsStreams result (seen self.old) (seen self.new) };
 
-    /// Writes all the bytes to a draft, or some of them where it fails.
+    /// Opens a regular file that is to be extended, or makes one, for its owner alone, where none has the name. It is held until the draft is
+    /// closed: while another run holds it, the call fails. Where files of that kind can't be held, it isn't. [`Disk::is_as_read`] still
+    /// speaks of the file that was opened to be read.
+    fn open_to_extend(&mut self, name: &str) -> io::Result<Self::Draft>
+        ensures ok { OnOk result (FilesChange (seen self.old) (seen self.new) (IsThere name.now)) }
+        ensures draft { IfOk result (λ draft. is_of draft name.now) }
+        ensures err { OnErr result (FilesChange (seen self.old) (seen self.new) Same) }
+        ensures moments { FilesPass (seen self.old) (seen self.new)
+            (λ before now. Same before now ⊎ Creates name.now [] before now) }
+        ensures still { KeepsStreams result (seen self.old) (seen self.new) };
+
+    /// Writes all the bytes after those that a draft has, or a beginning of them where it fails.
     fn write(&mut self, draft: &mut Self::Draft, name: &str, bytes: &[u8]) -> io::Result<()>
         requires { is_of draft.old name.now }
         ensures ok { OnOk result (FilesChange (seen self.old) (seen self.new) (Appends name.now bytes.now)) }
         ensures draft { is_of draft.new name.now }
-        ensures err { OnErr result (FilesChange (seen self.old) (seen self.new) (SameBut name.now)) }
-        ensures moments { FilesPass (seen self.old) (seen self.new) (SameBut name.now) }
+        ensures err { OnErr result (FilesChange (seen self.old) (seen self.new) (AppendsFront name.now bytes.now)) }
+        ensures moments { FilesPass (seen self.old) (seen self.new) (AppendsFront name.now bytes.now) }
+        ensures still { KeepsStreams result (seen self.old) (seen self.new) };
+
+    /// Cuts off what a draft has after its first bytes, of which this many stay. One that has no more stays as it is.
+    fn cut(&mut self, draft: &mut Self::Draft, name: &str, length: u64) -> io::Result<()>
+        requires { is_of draft.old name.now }
+        ensures ok { OnOk result (FilesChange (seen self.old) (seen self.new) (Cuts name.now length)) }
+        ensures draft { is_of draft.new name.now }
+        ensures err { OnErr result (FilesChange (seen self.old) (seen self.new) Same) }
+        ensures moments { FilesPass (seen self.old) (seen self.new)
+            (λ before now. Same before now ⊎ Cuts name.now length before now) }
         ensures still { KeepsStreams result (seen self.old) (seen self.new) };
 
     /// Gives a draft the owner and the permissions of the file whose place it is to take, as far as the system lets us. If no file is

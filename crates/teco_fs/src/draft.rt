@@ -2,8 +2,12 @@
 use crate::unkept::Unkept;
 use std::fs::{Files, Metadata, OpenFile, OpenOptions, Permissions};
 use std::io;
+use std::io::ErrorKind;
 use std::os::fd::AsFd;
 use std::os::unix::fs::{MetadataExt, OpenOptionsExt, PermissionsExt, fchown};
+
+/// The permissions of a file that is for its owner alone.
+pub const PRIVATE: u32 = 0o600;
 
 /// Opens a new file with these permissions, as far as the process gives them to new files. What has the name already, a link too, is left
 /// as it is, and the call fails.
@@ -13,6 +17,29 @@ pub fn open_new<R: Files>(rt: &R, name: &str, mode: u32) -> io::Result<R::File> 
         .create_new(true)
         .mode(mode)
         .open(rt, name)
+}
+
+/// Opens a regular file to be written after what it has. Where none has the name one is made, for its owner alone. It is opened to be read
+/// too, since a pipe would wait for its reader.
+pub fn open_extended<R: Files>(rt: &R, name: &str) -> io::Result<R::File> {
+    let file = OpenOptions::new()
+        .read(true)
+        .append(true)
+        .create(true)
+        .mode(PRIVATE)
+        .open(rt, name)?;
+    if !file.metadata()?.is_file() {
+        return Err(io::Error::from(ErrorKind::Unsupported));
+    }
+    Ok(file)
+}
+
+/// Cuts off what a file has after its first bytes, of which this many stay.
+pub fn cut<F: OpenFile>(file: &F, length: u64) -> io::Result<()> {
+    if file.metadata()?.len() <= length {
+        return Ok(());
+    }
+    file.set_len(length)
 }
 
 /// The permissions of a file whose group could not be kept: the other group may do what everyone may.

@@ -2,10 +2,10 @@
 ghost use Rattle.std.specs.Prelude.{◌≡◌, ⊤, true, IfOk, None, Some};
 
 use crate::disk::Disk;
-use crate::draft::{make_like, open_new};
+use crate::draft::{PRIVATE, cut, make_like, open_extended, open_new};
 use crate::failures::Failures;
 use crate::link::link_over;
-use crate::lock::{Lock, hold};
+use crate::lock::{Lock, hold, hold_opened};
 use crate::target::{Target, append, end_of_links, is_same_file, known, target_of};
 use crate::unkept::Unkept;
 use std::fs::{Files, Metadata, OpenFile};
@@ -17,9 +17,6 @@ use teco_io::ReaderSource;
 
 /// The permissions of a new file that takes the place of no other, if the file that was opened last has none for it.
 const NEW_FILE: u32 = 0o666;
-
-/// The permissions of a draft until it has those of the file whose place it is to take: it is for its owner alone.
-const PRIVATE: u32 = 0o600;
 
 /// The files of the system, of which no clause tells what they hold.
 #[derive(Drop)]
@@ -73,6 +70,16 @@ where
         *held = hold(rt, name)?;
     }
     Ok(Some(open_noted(rt, name, opened)?))
+}
+
+/// Opens a regular file to be written after what it has, or makes one, and holds it.
+fn open_held<R: Files>(rt: &R, name: &str) -> io::Result<R::File>
+where
+    R::File: Lock,
+{
+    let file = open_extended(rt, name)?;
+    hold_opened(rt, name, &file)?;
+    Ok(file)
 }
 
 /// Whether a file has the size that it had, and nobody has written to it since.
@@ -137,7 +144,7 @@ impl<'a, R: Files> FileDisk<'a, R> {
         }
     }
 
-    /// The permissions with which a draft is made.
+    /// The permissions with which a draft is made. One that is to take the place of a file is for its owner alone, until it has that one's.
     fn mode_of_draft(&self) -> u32 {
         match (&self.replaced, &self.opened) {
             (Some(_), _) => PRIVATE,
@@ -254,9 +261,19 @@ where
         self.failures.counted(made)
     }
 
+    fn open_to_extend(&mut self, name: &str) -> io::Result<R::File> {
+        let opened = open_held(self.rt, name);
+        self.failures.counted(opened)
+    }
+
     fn write(&mut self, draft: &mut R::File, _name: &str, bytes: &[u8]) -> io::Result<()> {
         let written = draft.write_all(bytes);
         self.failures.counted(written)
+    }
+
+    fn cut(&mut self, draft: &mut R::File, _name: &str, length: u64) -> io::Result<()> {
+        let done = cut(draft, length);
+        self.failures.counted(done)
     }
 
     fn make_like(&mut self, draft: &R::File, _name: &str) {

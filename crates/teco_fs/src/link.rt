@@ -1,13 +1,10 @@
 //! Another name for a file, under which its bytes stay when it is replaced.
-use crate::draft::{make_like, open_new};
+use crate::draft::{PRIVATE, make_like, open_new};
 use crate::target::is_same_file;
 use std::fs::{Files, Metadata, OpenFile};
 use std::io::{ErrorKind, Read, Write};
 use std::os::fd::AsFd;
 use std::{fs, io};
-
-/// The permissions of a copy until it has those of the file that is copied: it is for its owner alone.
-const PRIVATE: u32 = 0o600;
 
 /// Copies the rest of a file into a new one, makes that like it, and waits until it outlasts a crash.
 fn copy_whole<F: OpenFile + Read + Write + AsFd>(from: &mut F, to: &mut F) -> io::Result<()> {
@@ -17,7 +14,7 @@ fn copy_whole<F: OpenFile + Read + Write + AsFd>(from: &mut F, to: &mut F) -> io
     to.sync_all()
 }
 
-/// Copies a file to a new one of this name. If that fails, the new one is removed.
+/// Copies a file to a new one of this name, which is for its owner alone until it is like the file. If that fails, the new one is removed.
 fn copy_to<R: Files>(rt: &R, file: &str, name: &str) -> io::Result<()>
 where
     R::File: AsFd,

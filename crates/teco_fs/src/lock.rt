@@ -1,6 +1,7 @@
 //! Runs that wait for each other.
 use crate::target::{is_same_file, known};
-use std::fs::{File, Files, OpenFile};
+use std::fs::{File, Files, OpenFile, TryLockError};
+use std::io::ErrorKind;
 use std::{fs, io};
 
 /// How often a file is waited for that another run has replaced meanwhile.
@@ -10,11 +11,18 @@ const TURNS: u32 = 1000;
 pub trait Lock {
     /// Waits until no other run holds the file, and holds it until this is closed.
     fn lock(&self) -> io::Result<()>;
+
+    /// Holds the file until this is closed, unless another run holds it.
+    fn try_lock(&self) -> Result<(), TryLockError>;
 }
 
 impl Lock for File {
     fn lock(&self) -> io::Result<()> {
         File::lock(self)
+    }
+
+    fn try_lock(&self) -> Result<(), TryLockError> {
+        File::try_lock(self)
     }
 }
 
@@ -35,4 +43,21 @@ where
         }
     }
     Ok(None)
+}
+
+/// Holds a file that was opened under this name. It is an error if another run holds it, or has given the name to another file since. Nothing
+/// is held where files of that kind can't be.
+pub fn hold_opened<R: Files>(rt: &R, name: &str, file: &R::File) -> io::Result<()>
+where
+    R::File: Lock,
+{
+    let opened = file.metadata()?;
+    match file.try_lock() {
+        Ok(()) | Err(TryLockError::Error(_)) => {}
+        Err(TryLockError::WouldBlock) => return Err(io::Error::from(ErrorKind::ResourceBusy)),
+    }
+    match known(rt, name)? {
+        Some(now) if is_same_file(&now, &opened) => Ok(()),
+        _ => Err(io::Error::from(ErrorKind::ResourceBusy)),
+    }
 }

@@ -28,6 +28,9 @@ pub enum RefusedCall {
     /// A write, of which half the bytes come.
     Write,
     Sync,
+    /// To hold a file that is to be extended: another run holds it.
+    Hold,
+    Cut,
     /// To give a file another name too.
     Keep,
     Rename,
@@ -180,9 +183,19 @@ impl Disk for MemoryDisk {
         self.failures.counted(made)
     }
 
+    fn open_to_extend(&mut self, name: &str) -> io::Result<()> {
+        let extended = self.log.extended(self.refused, name);
+        self.failures.counted(extended)
+    }
+
     fn write(&mut self, _draft: &mut (), name: &str, bytes: &[u8]) -> io::Result<()> {
         let written = self.log.written(self.refused, name, bytes);
         self.failures.counted(written)
+    }
+
+    fn cut(&mut self, _draft: &mut (), name: &str, length: u64) -> io::Result<()> {
+        let cut = self.log.cut(self.refused, name, length);
+        self.failures.counted(cut)
     }
 
     fn make_like(&mut self, _draft: &(), _name: &str) {

@@ -1,7 +1,7 @@
 //! The log of a disk in memory, which tells its files.
 ghost use Rattle.std.specs.Option.{option_copied, option_map};
 ghost use Rattle.std.specs.Prelude.{◌≡◌, ◌≢◌, ◌∷◌, ◌++◌, [], IfOk, OnErr, OnOk, Some};
-ghost use Rattle.teco_fs.specs.Disk.{Appends, Creates, KeepsAs, Opens, Removes, Renames, Same, SameBut};
+ghost use Rattle.teco_fs.specs.Disk.{Appends, AppendsFront, Creates, Cuts, IsThere, KeepsAs, Opens, Removes, Renames, Same, SameBut};
 ghost use Rattle.teco_fs.specs.FileLog.{GrowsByOne, files_of};
 
 use super::RefusedCall;
@@ -167,6 +167,21 @@ impl Log {
         self.note(refused == RefusedCall::Make, name, name, Some(empty))
     }
 
+    /// A file that is to be extended is there then.
+    pub(super) fn extended(&mut self, refused: RefusedCall, name: &str) -> io::Result<()>
+        ensures ok { OnOk result (IsThere name.now (files_of self.old) (files_of self.new)) }
+        ensures err { OnErr result (Same (files_of self.old) (files_of self.new)) }
+        ensures grows { GrowsByOne self.old self.new }
+    {
+        if refused == RefusedCall::Hold {
+            return Err(io::Error::from(ErrorKind::ResourceBusy));
+        }
+        if self.bytes(name).is_some() {
+            return Ok(());
+        }
+        self.made(refused, name)
+    }
+
     pub(super) fn written(
         &mut self,
         refused: RefusedCall,
@@ -174,7 +189,7 @@ impl Log {
         bytes: &[u8],
     ) -> io::Result<()>
         ensures ok { OnOk result (Appends name.now bytes.now (files_of self.old) (files_of self.new)) }
-        ensures others { SameBut name.now (files_of self.old) (files_of self.new) }
+        ensures front { AppendsFront name.now bytes.now (files_of self.old) (files_of self.new) }
         ensures grows { GrowsByOne self.old self.new }
     {
         let mut all = self.copied(name)?;
@@ -204,6 +219,16 @@ impl Log {
     {
         self.written(refused, name, bytes.0)?;
         self.written(refused, name, bytes.1)
+    }
+
+    pub(super) fn cut(&mut self, refused: RefusedCall, name: &str, length: u64) -> io::Result<()>
+        ensures ok { OnOk result (Cuts name.now length (files_of self.old) (files_of self.new)) }
+        ensures err { OnErr result (Same (files_of self.old) (files_of self.new)) }
+        ensures grows { GrowsByOne self.old self.new }
+    {
+        let mut all = self.copied(name)?;
+        all.truncate(length as usize);
+        self.note(refused == RefusedCall::Cut, name, name, Some(all))
     }
 
     pub(super) fn kept(&mut self, refused: RefusedCall, file: &str, backup: &str) -> io::Result<()>

@@ -1,5 +1,5 @@
 use Rattle.std.proofs.Common.{◌∙◌, ap, subst, true, ℕ, Ok}
-use Rattle.teco_fs.proofs.Disks.{appends_if, but_then, others_appended, passes_then}
+use Rattle.teco_fs.proofs.Disks.{appends_if, but_then, others_appended, others_front, passes_front, passes_then}
 use Rattle.teco_fs.specs.Disk.{Counts}
 use Rattle.teco_io.specs.Terminal.{count_after}
 use Rattle.teco_fs.proofs.Writings.{appends_still, is_error, on_err_by, on_ok_by}
@@ -8,7 +8,7 @@ use Rattle.teco_fs.proofs.output.fill.Goals as goal
 pub returns : goal.returns
 returns g c =
     let written = appends_still (c.sync.ensures.still.files ∙ c.make_like.ensures.still.files) (appends_if {A = ℕ} {E = ℕ} c.args.bytes.1.now ((g.D.Disk.seen c.write-2.new.self).files) (Ok 0) c.in_ok-write.ensures.ok c.in_ok-write-2.ensures.ok) in
-    let passed = passes_then c.write.ensures.moments (others_appended c.in_ok-write.ensures.ok) c.write-2.ensures.moments in
+    let passed = passes_then (passes_front c.write.ensures.moments) (others_appended c.in_ok-write.ensures.ok) (passes_front c.write-2.ensures.moments) in
     record {
       ok = on_ok_by c.sync.result written;
       kept = c.sync.ensures.kept;
@@ -27,8 +27,8 @@ returns-in_err-write g c =
     record {
       ok = rw failed tt;
       kept = rw failed tt;
-      err = on_err_by c.from_residual.result c.in_err-write.ensures.err;
-      moments = c.write.ensures.moments;
+      err = on_err_by c.from_residual.result (others_front c.in_err-write.ensures.err);
+      moments = passes_front c.write.ensures.moments;
       still = record {
         streams = c.write.ensures.still.streams;
         count = rw failed c.in_err-write.ensures.still.count;
@@ -42,8 +42,8 @@ returns-in_err-write-2 g c =
     record {
       ok = rw failed tt;
       kept = rw failed tt;
-      err = on_err_by c.from_residual-in_err-write-2.result (but_then (others_appended c.in_ok-write.ensures.ok) c.in_err-write-2.ensures.err);
-      moments = passes_then c.write.ensures.moments (others_appended c.in_ok-write.ensures.ok) c.write-2.ensures.moments;
+      err = on_err_by c.from_residual-in_err-write-2.result (but_then (others_appended c.in_ok-write.ensures.ok) (others_front c.in_err-write-2.ensures.err));
+      moments = passes_then (passes_front c.write.ensures.moments) (others_appended c.in_ok-write.ensures.ok) (passes_front c.write-2.ensures.moments);
       still = record {
         streams = c.write-2.ensures.still.streams ∙ c.write.ensures.still.streams;
         count = rw failed (c.in_err-write-2.ensures.still.count ∙ ap (count_after true) c.in_ok-write.ensures.still.count);

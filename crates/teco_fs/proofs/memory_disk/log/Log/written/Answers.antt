@@ -1,15 +1,15 @@
 use Rattle.std.proofs.Common.{◌++◌, take, ap, sym, ◌∙◌}
 use Rattle.std.proofs.Math.Seq.{take-length}
 use Rattle.std.proofs.lemmas.Result.{on_ok_weaker}
-use Rattle.teco_fs.proofs.FileLogs.{appends, grows_by, others_of}
+use Rattle.teco_fs.proofs.FileLogs.{appends, front_of, grows_by}
 use Rattle.teco_fs.proofs.memory_disk.log.Log.written.Goals as goal
 use Rattle.teco_fs.proofs.memory_disk.log.Log.written.Goals.{then-is_refused, else-is_refused}
 
-pub returns-then-is_refused-2-clause-others : goal.returns-then-is_refused-2-clause-others
-returns-then-is_refused-2-clause-others c = others_of _ _ _ _ c.note-noted.result c.note-noted.ensures.ok c.note-noted.ensures.err
+pub returns-then-is_refused-2-clause-front : goal.returns-then-is_refused-2-clause-front
+returns-then-is_refused-2-clause-front c = front_of _ _ _ c.args.bytes.now c.in_ok-all.all.items c.if-is_refused.n c.note-noted.result c.in_ok-all.ensures (rw c.in_ok-extend_from_slice.ensures.items at c.note-noted.ensures.ok) c.note-noted.ensures.err
 
-pub returns-clause-others : goal.returns-clause-others
-returns-clause-others c = others_of _ _ _ _ c.note-noted.result c.note-noted.ensures.ok c.note-noted.ensures.err
+pub returns-clause-front : goal.returns-clause-front
+returns-clause-front c = front_of _ _ _ c.args.bytes.now c.in_ok-all.all.items c.if-is_refused.n c.note-noted.result c.in_ok-all.ensures (rw c.in_ok-extend_from_slice.ensures.items at c.note-noted.ensures.ok) c.note-noted.ensures.err
 
 pub returns-then-is_refused-2-clause-grows : goal.returns-then-is_refused-2-clause-grows
 returns-then-is_refused-2-clause-grows c = grows_by _ _ _ c.note-noted.result c.note-noted.ensures.ok c.note-noted.ensures.err
