@@ -18,6 +18,7 @@ use teco_serve::ClockAlarm;
 mod arguments;
 mod disk;
 mod ending;
+mod extending;
 mod input;
 mod inputs;
 mod large;
@@ -143,7 +144,8 @@ fn files_after(alloc: Global, disk: MemoryDisk, cells: &Cells) -> Option<MemoryD
 }
 
 /// The call that is refused, by the first letter of what a row says: that which reads, makes, writes or syncs, keeps an old file, puts a draft
-/// in its place, or that and the removal of the draft; that a file has changed; that an owner can't be kept, or what is written late.
+/// in its place, or that and the removal of the draft; that a file has changed; that an owner can't be kept, or what is written late; that a
+/// file is held by another run; that which cuts one.
 fn refused_of(said: &str) -> RefusedCall {
     match first_of(said) {
         b'r' => RefusedCall::Read,
@@ -156,6 +158,8 @@ fn refused_of(said: &str) -> RefusedCall {
         b'c' => RefusedCall::Changed,
         b'o' => RefusedCall::Owner,
         b'l' => RefusedCall::Changes,
+        b'h' => RefusedCall::Hold,
+        b't' => RefusedCall::Cut,
         _ => RefusedCall::Nothing,
     }
 }

@@ -51,7 +51,7 @@ fn mode_of(digits: &str) -> u32 {
 
 /// Whether a name is a link, a device or nothing, or a file whose owner is kept, or one with these permissions. Only root has a file that
 /// was given away, and would own the one that replaces it.
-fn is_a(rt: &impl Files, name: &str, kind: &str) -> bool {
+pub(super) fn is_a(rt: &impl Files, name: &str, kind: &str) -> bool {
     let Ok(file) = rt.symlink_metadata(name) else {
         return is(kind, "gone");
     };
@@ -117,7 +117,7 @@ fn ages<R: Files>(rt: &R, name: &str) -> bool {
 }
 
 /// Whether the last call of a disk that failed did so by this.
-fn failed_by(why: Option<ErrorKind>, kind: &str) -> bool {
+pub(super) fn failed_by(why: Option<ErrorKind>, kind: &str) -> bool {
     let told = match why {
         None => "nothing",
         Some(ErrorKind::NotFound) => "NotFound",
@@ -176,7 +176,7 @@ fn are_one(rt: &impl Files, name: &str, other: &str) -> bool {
 }
 
 /// Whether a file has these bytes.
-fn reads_so<R: Files + AllocGlobal>(rt: &R, name: &str, bytes: &str) -> bool {
+pub(super) fn reads_so<R: Files + AllocGlobal>(rt: &R, name: &str, bytes: &str) -> bool {
     match fs::read(rt, name) {
         Ok(read) => are(&read, bytes.as_bytes()),
         Err(_) => false,
