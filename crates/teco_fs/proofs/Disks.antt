@@ -3,7 +3,7 @@ use Rattle.std.proofs.Common.{◌≡◌, ◌≢◌, ◌⊎◌, inl, inr, ℕ, Li
 use Rattle.std.specs.Prelude.{OnOk, OnErr, bytes_eq}
 use Rattle.std.proofs.lemmas.Option.{same_Some}
 use Rattle.std.proofs.lemmas.Slice.Eq.{bytes_eq-Decides}
-use Rattle.teco_fs.specs.Disk.{Appends, AppendsFront, Changes, Creates, Cuts, Files, IsKeepingBy, IsThere, IsWhole, KeepsAs, LeavesFiles, Passes, Removes, Renames, Same, SameBut}
+use Rattle.teco_fs.specs.Disk.{Appends, AppendsFront, Changes, Creates, CutsTo, Files, IsKeepingBy, IsThere, IsWhole, KeepsAs, LeavesFiles, Passes, Removes, Renames, Same, SameBut}
 
 -- at a moment while the draft takes the file's name
 abbrev pub IsRenaming : List ℕ → List ℕ → Files → Files → Type 0
@@ -26,7 +26,7 @@ there_or_same (inl (inr created)) = inr created
 there_or_same (inr same) = inl same
 
 -- it was cut, or all is as it was
-pub cut_or_same : {name : List ℕ} {length : ℕ} {before now : Files} → Cuts name length before now ⊎ Same before now → Same before now ⊎ Cuts name length before now
+pub cut_or_same : {name : List ℕ} {length : ℕ} {before now : Files} → CutsTo name length before now ⊎ Same before now → Same before now ⊎ CutsTo name length before now
 cut_or_same (inl cuts) = inr cuts
 cut_or_same (inr same) = inl same
 

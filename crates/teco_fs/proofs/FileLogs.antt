@@ -6,7 +6,7 @@ use Rattle.std.proofs.lemmas.Bool.{false_from_ne_true}
 use Rattle.std.proofs.lemmas.List.{append-nil, drop_more, take-append-drop}
 use Rattle.std.proofs.lemmas.Option.{same_Some}
 use Rattle.std.proofs.lemmas.Slice.Eq.{bytes_eq-Decides}
-use Rattle.teco_fs.specs.Disk.{Appends, AppendsFront, Changes, Creates, Cuts, Files, KeepsAs, Passes, Removes, Renames, SameBut}
+use Rattle.teco_fs.specs.Disk.{Appends, AppendsFront, Changes, Creates, CutsTo, Files, KeepsAs, Passes, Removes, Renames, SameBut}
 use Rattle.teco_fs.specs.FileLog.{FileNote, GrowsByOne, WereOnce, files_of}
 
 -- the note of a call that gives these bytes to a name, or none, and takes another away
@@ -52,7 +52,7 @@ module _ {old new : List FileNote} where
       others = others_noted more;
     }
 
-    pub cuts : {had : List ℕ} {length : ℕ} → files_of old name ≡ Some had → new ≡ noted name name (Some (take length had)) ∷ old → Cuts name length (files_of old) (files_of new)
+    pub cuts : {had : List ℕ} {length : ℕ} → files_of old name ≡ Some had → new ≡ noted name name (Some (take length had)) ∷ old → CutsTo name length (files_of old) (files_of new)
     cuts {had} {length} is more = record {
       whole = λ was there. at_name (noted name name (Some (take length had))) more name refl ∙ ap (λ all. Some (take length all)) (same_Some had was (sym is ∙ there));
       others = others_noted more;

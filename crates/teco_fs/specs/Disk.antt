@@ -36,7 +36,7 @@ abbrev pub IsThere : List ℕ → Files → Files → Type 0
 IsThere name before after = ((before name ≢ None) × Same before after) ⊎ Creates name [] before after
 
 -- The file has no more than so many of the bytes that it had, from its beginning.
-pub record Cuts (name : List ℕ) (length : ℕ) (before after : Files) : Type 0 where
+pub record CutsTo (name : List ℕ) (length : ℕ) (before after : Files) : Type 0 where
   pub whole : (had : List ℕ) → before name ≡ Some had → after name ≡ Some (take length had)
   pub others : SameBut name before after
 

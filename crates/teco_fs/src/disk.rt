@@ -4,7 +4,7 @@ ghost use Rattle.std.specs.Prelude.{◌≡◌, ◌≢◌, ◌⊎◌, ◌++◌, �
 ghost use Rattle.std.specs.declared.io.Error.{Error};
 ghost use Rattle.std.specs.declared.io.ErrorKind.{ErrorKind};
 ghost use Rattle.std.specs.Prelude.{[], None, Some, IfOk, IfSome, IsNone, IsSome, true, false};
-ghost use Rattle.teco_fs.specs.Disk.{Appends, AppendsFront, Creates, Cuts, IsKeepingBy, IsStream, IsTargetOf, IsThere, KeepsAs, LeavesFiles, Opens, Removes, Renames, Same, SameBut};
+ghost use Rattle.teco_fs.specs.Disk.{Appends, AppendsFront, Creates, CutsTo, IsKeepingBy, IsStream, IsTargetOf, IsThere, KeepsAs, LeavesFiles, Opens, Removes, Renames, Same, SameBut};
 ghost use Rattle.teco_fs.specs.State.{DiskState, FilesChange, FilesPass, KeepsFiles, KeepsStreams, KeepsStreamsUntold, Looks, LooksUntold};
 
 use crate::target::Target;
@@ -95,11 +95,11 @@ pub trait Disk {
     /// Cuts off what a draft has after its first bytes, of which this many stay. One that has no more stays as it is.
     fn cut(&mut self, draft: &mut Self::Draft, name: &str, length: u64) -> io::Result<()>
         requires { is_of draft.old name.now }
-        ensures ok { OnOk result (FilesChange (seen self.old) (seen self.new) (Cuts name.now length)) }
+        ensures ok { OnOk result (FilesChange (seen self.old) (seen self.new) (CutsTo name.now length)) }
         ensures draft { is_of draft.new name.now }
         ensures err { OnErr result (FilesChange (seen self.old) (seen self.new) Same) }
         ensures moments { FilesPass (seen self.old) (seen self.new)
-            (λ before now. Same before now ⊎ Cuts name.now length before now) }
+            (λ before now. Same before now ⊎ CutsTo name.now length before now) }
         ensures still { KeepsStreams result (seen self.old) (seen self.new) };
 
     /// Gives a draft the owner and the permissions of the file whose place it is to take, as far as the system lets us. If no file is

@@ -1,7 +1,7 @@
 //! The log of a disk in memory, which tells its files.
 ghost use Rattle.std.specs.Option.{option_copied, option_map};
 ghost use Rattle.std.specs.Prelude.{◌≡◌, ◌≢◌, ◌∷◌, ◌++◌, [], IfOk, OnErr, OnOk, Some};
-ghost use Rattle.teco_fs.specs.Disk.{Appends, AppendsFront, Creates, Cuts, IsThere, KeepsAs, Opens, Removes, Renames, Same, SameBut};
+ghost use Rattle.teco_fs.specs.Disk.{Appends, AppendsFront, Creates, CutsTo, IsThere, KeepsAs, Opens, Removes, Renames, Same, SameBut};
 ghost use Rattle.teco_fs.specs.FileLog.{GrowsByOne, files_of};
 
 use super::RefusedCall;
@@ -222,7 +222,7 @@ impl Log {
     }
 
     pub(super) fn cut(&mut self, refused: RefusedCall, name: &str, length: u64) -> io::Result<()>
-        ensures ok { OnOk result (Cuts name.now length (files_of self.old) (files_of self.new)) }
+        ensures ok { OnOk result (CutsTo name.now length (files_of self.old) (files_of self.new)) }
         ensures err { OnErr result (Same (files_of self.old) (files_of self.new)) }
         ensures grows { GrowsByOne self.old self.new }
     {
