@@ -1,4 +1,5 @@
 pub mod Events
+pub mod Entries
 pub mod Lines
 pub mod Reading
 pub mod Laws

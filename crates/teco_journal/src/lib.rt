@@ -14,6 +14,7 @@
 #![tactic(auto)]
 
 mod check;
+mod entry;
 mod head;
 mod head_reader;
 mod laws;
@@ -26,6 +27,7 @@ mod words;
 mod writer;
 
 pub use check::{CHECK_LENGTH, check_of};
+pub use entry::Entry;
 pub use head::{NewHead, new_head};
 pub use head_reader::{Head, HeadFault, read_head};
 pub use laws::{file_laws, journal_laws};
