@@ -9,6 +9,7 @@ use Rattle.teco_fs.specs.Refusing.{Tells}
 use Rattle.teco_io.specs.Terminal.{Screen}
 use Rattle.teco_serve.specs.Ending.{said}
 use Rattle.teco_serve.specs.Heard.{Heard}
+use Rattle.teco_serve.specs.Heard.Heard.{Did}
 use Rattle.teco_driver.specs.Reporting.{after_report, reported}
 use Rattle.teco_driver.specs.declared.reporting.Reporting.{Reporting}
 use Rattle.teco_driver.specs.declared.sources.ReadSource.{ReadSource}
@@ -32,9 +33,14 @@ lines_or_lack (Err lacking) = said (codes "no memory")
 abbrev pub TellsReport : Screen → Screen → List ℕ → Type 0
 TellsReport old new lines = Tells old new lines ⊎ Tells old new (said (codes "no memory"))
 
+-- What is told of what was heard: of what a request did nothing, since its answer is not shown yet.
+abbrev pub TellsHeard : ReporterSeen → ReporterSeen → Heard → Type 0
+TellsHeard old new (Did event) = new.notes ≡ old.notes
+TellsHeard old new heard = TellsReport old.notes new.notes (reported old.line old.parts old.reporting heard)
+
 -- A reporter has told its lines before the call ends in which it hears of something.
 pub record HasReported (old new : ReporterSeen) (heard : Heard) : Type 0 where
   pub line : new.line ≡ old.line
   pub parts : new.parts ≡ old.parts
   pub reporting : new.reporting ≡ after_report old.reporting heard
-  pub told_is : TellsReport old.notes new.notes (reported old.line old.parts old.reporting heard)
+  pub told_is : TellsHeard old new heard

@@ -16,7 +16,7 @@ use Rattle.teco_messages.specs.Shown.{place_shown, reason_shown}
 use Rattle.teco_serve.specs.Ending.{output_of}
 use Rattle.teco_serve.specs.Explaining.{anew, counted, end_line, left_line, limits_after, move_lines, next_number, place_had, run_lines}
 use Rattle.teco_serve.specs.Heard.{Heard}
-use Rattle.teco_serve.specs.Heard.Heard.{Ran, Moved, Left, Finished}
+use Rattle.teco_serve.specs.Heard.Heard.{Ran, Moved, Left, Finished, Did}
 use Rattle.teco_serve.specs.declared.alarm.Bounds.{Bounds}
 use Rattle.teco_serve.specs.declared.fate.Fate.{Fate}
 use Rattle.teco_serve.specs.declared.fate.Fate.TheVariants.{Ended}
@@ -149,12 +149,13 @@ abbrev pub end_report : Line → List ReadSource → Reporting → List ℕ → 
 end_report line parts r input fate =
     if line.explain then end_line (output_of line input) fate else unwritten_report (advice_of parts) r.has_told input fate
 
--- What is told of what was heard.
+-- What is told of what was heard. Of what a request did it is told once the answer is shown.
 abbrev pub reported : Line → List ReadSource → Reporting → Heard → List ℕ
 reported line parts r (Ran text begins answered bounds session) = run_report line parts r text begins answered bounds session
 reported line parts r (Moved begins code session) = move_report line parts r begins code session
 reported line parts r (Left bytes broken_off) = left_report line parts r bytes broken_off
 reported line parts r (Finished at input fate) = end_report line parts r input fate
+reported line parts r (Did event) = []
 
 -- before the first text
 abbrev pub first_report : Line → Reporting
@@ -178,3 +179,4 @@ after_report r (Ran text begins answered bounds session) = after_text r (answer_
 after_report r (Moved begins code session) = after_text r code session
 after_report r (Left bytes broken_off) = after_left r bytes broken_off
 after_report r (Finished line input fate) = after_end r
+after_report r (Did event) = r

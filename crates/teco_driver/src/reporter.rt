@@ -10,6 +10,7 @@ use std::alloc::Global;
 use teco_cli::Line;
 use teco_core::{Code, NoMemory};
 use teco_io::Terminal;
+use teco_journal::Entry;
 use teco_serve::{Bounds, Fate, Listens};
 use teco_session::{Answered, Session};
 
@@ -76,6 +77,8 @@ impl<'a, N: Terminal> Listens for Reporter<'a, N> {
     fn wants_place(&self) -> bool {
         true
     }
+
+    fn did(&mut self, _entry: Entry<'_>) {}
 
     fn ran(
         &mut self,

@@ -1,3 +1,4 @@
 pub mod Showing
 pub mod Exchanges
 pub mod Servings
+pub mod Hearings

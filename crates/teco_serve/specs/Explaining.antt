@@ -14,7 +14,7 @@ use Rattle.teco_cli.specs.declared.line.Line.{Line}
 use Rattle.teco_fs.specs.Refusing.{Tells}
 use Rattle.teco_serve.specs.Ending.{output_of}
 use Rattle.teco_serve.specs.Heard.{Heard}
-use Rattle.teco_serve.specs.Heard.Heard.{Ran, Moved, Left, Finished}
+use Rattle.teco_serve.specs.Heard.Heard.{Ran, Moved, Left, Finished, Did}
 use Rattle.teco_serve.specs.declared.alarm.Bounds.{Bounds}
 use Rattle.teco_serve.specs.declared.fate.Fate.{Fate}
 use Rattle.teco_serve.specs.declared.fate.Fate.TheVariants.{NoCommands, NoInput, NotRegular, LargeInput, NoMemory, NoOutput, NoBackup, Changed, Unchanged, Lacking}
@@ -177,12 +177,13 @@ counted session t = record t { texts = next_number t; place = (state_of session.
 abbrev pub anew : Telling → Telling
 anew t = record t { texts = 0; place = 0 }
 
--- What `--explain` tells of what was heard.
+-- What `--explain` tells of what was heard. Of what a request did it tells once the answer is shown.
 abbrev pub explained : Heard → Telling → List ℕ
 explained (Ran text begins answered bounds session) t = run_lines t bounds text answered session
 explained (Moved begins code session) t = move_lines t code session
 explained (Left bytes broken_off) t = left_line bytes broken_off
 explained (Finished line input fate) t = end_line (output_of line input) fate
+explained (Did event) t = []
 
 -- what it counts once that was heard
 abbrev pub after_hearing : Heard → Telling → Telling
@@ -190,13 +191,15 @@ after_hearing (Ran text begins answered bounds session) t = counted session t
 after_hearing (Moved begins code session) t = counted session t
 after_hearing (Left bytes broken_off) t = t
 after_hearing (Finished line input fate) t = anew t
+after_hearing (Did event) t = t
 
 -- what a listener tells of, and what is seen of the notes that it tells it on
 pub record Hearing : Type 0 where
   pub telling : Telling
   pub notes : Screen
 
--- The lines are told before the call ends in which the listener hears of it.
+-- The lines are told before the call ends in which the listener hears of it. What a request did is told of once its answer is shown.
 abbrev pub HasTold : Hearing → Hearing → Heard → Type 0
+HasTold old new (Did event) = new ≡ old
 HasTold old new heard =
     (new.telling ≡ after_hearing heard old.telling) × TellsLines old.notes new.notes (explained heard old.telling)

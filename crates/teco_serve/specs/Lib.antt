@@ -6,4 +6,5 @@ pub mod Serving
 pub mod Held
 pub mod Ending
 pub mod Heard
+pub mod Hearing
 pub mod Explaining

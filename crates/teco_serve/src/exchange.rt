@@ -3,6 +3,7 @@ ghost use Rattle.std.specs.Prelude.{◌≡◌, ◌≢◌, ℕ, List, [], ◌&&�
 ghost use Rattle.teco_serve.specs.Cut.{value_of};
 ghost use Rattle.teco_serve.specs.Exchange.{Does, Exchange, HasRung, MovesInHistory, Repeats, RunsAllowed, allowance, is_exit};
 ghost use Rattle.teco_serve.specs.Heard.Heard.{Moved, Ran};
+ghost use Rattle.teco_serve.specs.Hearing.{HearsAll, HearsAllDone, told_alone};
 ghost use Rattle.teco_serve.specs.Held.{ExchangeEnds, IsExchange};
 ghost use Rattle.teco_serve.specs.Message.{code_line, is_shown, line_of, message, replies_shown, star};
 ghost use Rattle.teco_scan.specs.Stream.{is_run};
@@ -13,6 +14,7 @@ ghost use Rattle.teco_session.specs.Kept.{history_of};
 ghost use Rattle.teco_session.specs.RunsIn.{RunsIn};
 ghost use Rattle.teco_exec.specs.Runs.{RunsWithin, StillSays};
 ghost use Rattle.teco_session.specs.Step.{Reply, RunStep, is_terminal_failure};
+ghost use Rattle.teco_replay.specs.Told.{event_of_request, event_of_run};
 ghost use Rattle.teco_io.specs.Terminal.{Puts, Shows};
 
 use crate::alarm::{Alarm, Manner, Settings};
@@ -20,8 +22,10 @@ use crate::listener::Listens;
 use crate::served::Served;
 use crate::splitter::Asked;
 use teco_core::Code;
-use teco_exec::{Never, Options, Stop, Watched};
+use teco_exec::{Never, Options, Stop, Watched, meaning_laws};
 use teco_io::{Terminal, TerminalFault};
+use teco_journal::Entry;
+use teco_replay::replay_laws;
 use teco_session::{Answer, Answered, Request, Session};
 use teco_store::Desk;
 
@@ -80,6 +84,7 @@ fn show_ending<T: Terminal, L: Listens>(
 ) -> Result<(), TerminalFault>
     ensures heard { OnOk result (L.hears listener.old listener.new
         (Ran text.now begins answered.now settings.bounds session.now)) }
+    ensures unheard { OnErr result (listener.new ≡ listener.old) }
     ensures puts { Puts (T.screen term.old) (T.screen term.new) (message settings.manner answered.now.answer) result }
     ensures some { OnErr result (message settings.manner answered.now.answer ≢ []) }
 {
@@ -100,6 +105,7 @@ fn show_refusal<T: Terminal, L: Listens>(
     listener: &mut L,
 ) -> Result<(), TerminalFault>
     ensures heard { OnOk result (L.hears listener.old listener.new (Moved begins (answer_code answer) session.now)) }
+    ensures unheard { OnErr result (listener.new ≡ listener.old) }
     ensures puts { Puts (T.screen term.old) (T.screen term.new) (message manner answer) result }
     ensures some { OnErr result (message manner answer ≢ []) }
 {
@@ -118,7 +124,31 @@ pub fn show_prompt<T: Terminal>(prompt: bool, term: &mut T) -> Result<(), Termin
     if prompt { term.put(b"*") } else { Ok(()) }
 }
 
-/// Asks for an undo, a redo or a rewind `n` times. It stops after the first that is refused, and shows its message.
+/// Lets the listener hear of a string that was run, unless it was not begun.
+fn tell_run<L: Listens>(text: &[u8], answer: Answer, listener: &mut L)
+    ensures { HearsAll L.hears listener.old (told_alone (event_of_run text.now answer)) listener.new }
+{
+    if let Answer::Ended(outcome) = answer {
+        let steps = outcome.steps;
+        listener.did(Entry::Run { steps, text });
+    }
+}
+
+/// Lets the listener hear of what a request with this answer did to the session, if it did something.
+fn tell_request<L: Listens>(request: &Request, answer: Answer, listener: &mut L)
+    ensures { HearsAll L.hears listener.old (told_alone (event_of_request request.now answer)) listener.new }
+{
+    match (request, answer) {
+        (Request::Run(text), _) => tell_run(text.as_slice(), answer, listener),
+        (Request::Undo, Answer::Undone) => listener.did(Entry::Undo),
+        (Request::Redo, Answer::Redone) => listener.did(Entry::Redo),
+        (Request::Rewind(steps), Answer::Rewound) => listener.did(Entry::Rewind(*steps)),
+        _ => {}
+    }
+}
+
+/// Asks for an undo, a redo or a rewind `n` times. It stops after the first that is refused, and shows its message. The listener hears of
+/// each that is not refused.
 fn repeat<T: Terminal, L: Listens>(
     request: &Request,
     n: u32,
@@ -129,13 +159,16 @@ fn repeat<T: Terminal, L: Listens>(
     listener: &mut L,
 ) -> Result<(), TerminalFault>
     requires { MovesInHistory request.now }
-    ensures { (replies : List Reply)
+    ensures done { (replies : List Reply)
         × Repeats settings.bounds.steps request.now n (history_of session.old) replies (history_of session.new)
         × Puts (T.screen term.old) (T.screen term.new) (replies_shown settings.manner replies) result
         × OnErr result (replies_shown settings.manner replies ≢ []) }
+    ensures heard { HearsAllDone L.hears listener.old listener.new (history_of session.old) (history_of session.new) }
 {
+    replay_laws();
     'moves: for _i in 0..n {
         let answer = session.answer(request, settings.bounds.steps, term);
+        tell_request(request, answer, listener);
         if answer.is_refused() {
             return show_refusal(answer, begins, session, settings.manner, term, listener);
         }
@@ -165,7 +198,7 @@ fn run_placed<S: Stop, T: Terminal>(
     }
 }
 
-/// Runs a text, and shows the message of the answer. With seconds the alarm is set, and may break it off.
+/// Runs a text, lets the listener hear of that, and shows the message of the answer. With seconds the alarm is set, and may break it off.
 fn run_text<A: Alarm, T: Terminal, L: Listens>(
     text: &[u8],
     begins: u64,
@@ -181,7 +214,10 @@ fn run_text<A: Alarm, T: Terminal, L: Listens>(
         × OnErr result (replies_shown settings.manner replies ≢ []) }
     ensures err { OnErr result
         (is_exit (Run text.now) (history_of session.old) (history_of session.new) ≡ false) }
+    ensures heard { HearsAllDone L.hears listener.old listener.new (history_of session.old) (history_of session.new) }
 {
+    replay_laws();
+    meaning_laws();
     let bounds = settings.bounds;
     let answered = if let Some(seconds) = bounds.seconds {
         alarm.set(seconds);
@@ -194,6 +230,7 @@ fn run_text<A: Alarm, T: Terminal, L: Listens>(
             place: Ok(None),
         }
     };
+    tell_run(text, answered.answer, listener);
     if answered.answer.is_terminal_failure() {
         return Err(TerminalFault);
     }
@@ -218,10 +255,12 @@ pub fn do_exchange<A: Alarm, T: Terminal, L: Listens>(
     term: &mut T,
     listener: &mut L,
 ) -> Option<Served>
-    ensures { (exchange : Exchange)
+    ensures does { (exchange : Exchange)
         × IsExchange (allowance settings.bounds (HasRung A.answered)) (value_of asked.now) (history_of session.old)
         (history_of session.new) exchange
         × ExchangeEnds (Shows (T.screen term.old) (T.screen term.new)) settings.manner exchange result }
+    // The listener has heard of just what was done to the session.
+    ensures heard { HearsAllDone L.hears listener.old listener.new (history_of session.old) (history_of session.new) }
 {
     let was_done = session.editor().done();
     let shown = match asked {

@@ -2,7 +2,8 @@
 ghost use Rattle.std.specs.Prelude.{◌≡◌};
 ghost use Rattle.teco_serve.specs.Explaining.{HasTold, beginning_of, told};
 ghost use Rattle.teco_serve.specs.Heard.{Heard};
-ghost use Rattle.teco_serve.specs.Heard.Heard.{Finished, Left, Moved, Ran};
+ghost use Rattle.teco_serve.specs.Heard.Heard.{Did, Finished, Left, Moved, Ran};
+ghost use Rattle.teco_journal.specs.Entries.{event_in};
 ghost use Rattle.teco_fs.specs.Refusing.{Tells};
 
 use crate::alarm::Bounds;
@@ -12,6 +13,7 @@ use std::alloc::Global;
 use teco_cli::Line;
 use teco_core::{Code, NoMemory};
 use teco_io::Terminal;
+use teco_journal::Entry;
 use teco_session::{Answered, Session};
 
 /// Who hears what is done for each text of the stream. One that tells of it does so in the call itself.
@@ -21,6 +23,10 @@ pub trait Listens {
 
     /// Whether it wants to hear where a run last stood.
     fn wants_place(&self) -> bool;
+
+    /// A request did this to the session, and its answer is not shown yet. A request that was refused did nothing, and is not told.
+    fn did(&mut self, entry: Entry<'_>)
+        ensures told { hears self.old self.new (Did (event_in entry.entry)) };
 
     /// A text was run within these bounds, and the message of its answer is shown. It begins after so many bytes of the stream.
     fn ran(
@@ -57,6 +63,8 @@ impl Listens for Silent {
     fn wants_place(&self) -> bool {
         false
     }
+
+    fn did(&mut self, _entry: Entry<'_>) {}
 
     fn ran(
         &mut self,
@@ -123,6 +131,8 @@ impl<'a, N: Terminal> Listens for Explainer<'a, N> {
     fn wants_place(&self) -> bool {
         true
     }
+
+    fn did(&mut self, _entry: Entry<'_>) {}
 
     fn ran(
         &mut self,

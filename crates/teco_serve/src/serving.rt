@@ -2,6 +2,7 @@
 ghost use Rattle.std.specs.Prelude.{List};
 ghost use Rattle.teco_session.specs.Kept.{history_of};
 ghost use Rattle.teco_serve.specs.Exchange.{Exchange, HasRung, allowance};
+ghost use Rattle.teco_serve.specs.Hearing.{HearsAllDone};
 ghost use Rattle.teco_serve.specs.Held.{CutsOff, Emptied, HeldEnds};
 ghost use Rattle.teco_serve.specs.Serving.{Exchanges, Serves};
 ghost use Rattle.teco_io.specs.Source.{Gives, HasEnded};
@@ -30,11 +31,12 @@ fn serve_held<A: Alarm, T: Terminal, L: Listens>(
     term: &mut T,
     listener: &mut L,
 ) -> Option<Served>
-    ensures { (exchanges : List Exchange)
+    ensures does { (exchanges : List Exchange)
         × Exchanges (allowance settings.bounds (HasRung A.answered)) (history_of session.old) exchanges (history_of session.new)
         × CutsOff splitter.old exchanges splitter.new
         × Emptied result splitter.new
         × HeldEnds (Shows (T.screen term.old) (T.screen term.new)) settings.manner exchanges result }
+    ensures heard { HearsAllDone L.hears listener.old listener.new (history_of session.old) (history_of session.new) }
 {
     'held: loop {
         let begins = fed.saturating_sub(splitter.held().len() as u64);
@@ -52,7 +54,8 @@ fn serve_held<A: Alarm, T: Terminal, L: Listens>(
 }
 
 /// Reads pieces of the stream, cuts them into texts, and does what each asks before it reads again. Each command string may run as far
-/// as the settings say, and the alarm is set for each anew. The listener hears what is done for each text.
+/// as the settings say, and the alarm is set for each anew. The listener hears what is done for each text. Before an answer is shown, it hears
+/// of what the request did to the session.
 ///
 /// However the source cuts its bytes, what is done is a beginning of what they ask, and all of it at the end of the stream and where
 /// a read fails. It ends where a run makes the session done, and at the first put that fails; nothing is done after that.
@@ -65,11 +68,13 @@ pub fn serve<S: Source, A: Alarm, T: Terminal, L: Listens>(
     term: &mut T,
     listener: &mut L,
 ) -> Served
-    ensures { Serves (allowance settings.bounds (HasRung A.answered)) settings.manner
+    ensures serves { Serves (allowance settings.bounds (HasRung A.answered)) settings.manner
         (Gives S.coming S.bound S.failures source.old source.new)
         (HasEnded (S.coming source.new) (S.ended source.new))
         (Shows (T.screen term.old) (T.screen term.new))
         (history_of session.old) (history_of session.new) result }
+    // The listener has heard of just what was done to the session: of each request that did something, once, in order.
+    ensures heard { HearsAllDone L.hears listener.old listener.new (history_of session.old) (history_of session.new) }
 {
     if let Err(TerminalFault) = show_prompt(settings.manner.prompt, term) {
         return Served::ShowFault;

@@ -21,6 +21,6 @@ returns g c =
     let size : c.len.result ≡ length c.in-Ok.input.items = search rules in
     let bounds = c.settings_of-settings.ensures.bounds ∙ ap (bounds_of c.args.line.now) size in
     record {
-      edits = over_work _ _ _ _ _ _ _ _ _ _ _ _ c.input_at.ensures.keeps given c.in-Ok-work_over.ensures.to c.in-Ok-work_over.ensures.history (rw (bounds, c.settings_of-settings.ensures.manner) at c.serve-served.ensures) c.finish-fate.ensures.ends;
+      edits = over_work _ _ _ _ _ _ _ _ _ _ _ _ c.input_at.ensures.keeps given c.in-Ok-work_over.ensures.to c.in-Ok-work_over.ensures.history (rw (bounds, c.settings_of-settings.ensures.manner) at c.serve-served.ensures.serves) c.finish-fate.ensures.ends;
       still = λ apart. c.finish-fate.ensures.still ∙ c.input_at.ensures.still apart;
     }

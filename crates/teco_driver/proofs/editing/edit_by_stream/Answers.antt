@@ -14,4 +14,4 @@ returns g c =
     let size : c.len.result ≡ length c.in-Ok.input.items = search rules in
     let bounds = c.settings_of-settings.ensures.bounds ∙ ap (bounds_of c.args.line.now) size in
     rw c.requires.apart (over_work _ _ _ _ _ _ _ _ _ _ _ _ c.input_of.ensures.keeps c.in-Ok.ensures.input c.in-Ok-work_over.ensures.to (rw c.depth_said.ensures.depth at c.in-Ok-work_over.ensures.history)
-    (rw (← c.finish-fate.ensures.still, bounds, c.settings_of-settings.ensures.manner) at c.serve-served.ensures) c.finish-fate.ensures.ends)
+    (rw (← c.finish-fate.ensures.still, bounds, c.settings_of-settings.ensures.manner) at c.serve-served.ensures.serves) c.finish-fate.ensures.ends)

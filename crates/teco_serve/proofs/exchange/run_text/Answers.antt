@@ -7,8 +7,13 @@ use Rattle.teco_exec.proofs.Continuations.{unbroken}
 use Rattle.teco_io.proofs.Shown.{Puts-after}
 use Rattle.teco_io.specs.Terminal.{Shows, Puts}
 use Rattle.teco_serve.specs.Exchange.{HasRung, allowance}
+use Rattle.teco_exec.specs.Laws.{EnoughIsEnough}
+use Rattle.teco_replay.specs.Laws.{LimitsAreReached}
+use Rattle.teco_replay.specs.Told.{event_of_run}
+use Rattle.teco_serve.specs.Hearing.{HearsAll, HearsAllDone, told_alone}
 use Rattle.teco_serve.specs.Message.{message}
 use Rattle.teco_serve.proofs.Exchanges.{HasRun, failure-some, message-no_exit, message-some, runs_allowed}
+use Rattle.teco_serve.proofs.Hearings.{HearsAllDone-run, HearsAllDone-shown, HearsAllDone-trans}
 use Rattle.teco_serve.proofs.exchange.run_text.Given as given
 use Rattle.teco_serve.proofs.exchange.run_text.Goals as goal
 use Rattle.teco_serve.proofs.exchange.run_text.Goals.{Joined-bounds, in-Some, in_default+then-wants_place, in_default+else-wants_place}
@@ -38,6 +43,13 @@ ran g c = elim c.match-bounds.branch [
       rw (w.session-is, w.term-is, w.answered-is) (record { typed = run.step.0; ran = inl run.step.1; shows = run.step.2; exit = run.exit })
 ]
 
+-- the string was told as it ran
+told : (g : given.Over) (c : Joined-bounds g) (after : g.row.L.Denot) → EnoughIsEnough → LimitsAreReached → HearsAll g.L.Listens.hears c.args.listener.now (told_alone (event_of_run c.args.text.now c.match-bounds.answered.answer)) after
+    → HearsAllDone g.L.Listens.hears c.args.listener.now after (history_of c.args.session.now) (history_of c.match-bounds.session)
+told g c after enough reached p =
+    let run = ran g c in
+    HearsAllDone-run g.L.Listens.hears enough reached _ after _ _ _ c.args.text.now c.match-bounds.answered.answer run.typed run.ran p
+
 pub returns-then-is_terminal_failure : goal.returns-then-is_terminal_failure
 returns-then-is_terminal_failure g c =
     let run = ran g (goal.at.returns-then-is_terminal_failure g c).Joined-bounds in
@@ -51,6 +63,7 @@ returns-then-is_terminal_failure g c =
         message-some c.args.settings.manner reply (failure-some c.args.settings.manner reply.answer failed),
       );
       err = message-no_exit c.args.settings.manner c.args.text.now (history_of c.args.session.now) (history_of c.match-bounds.session) reply.answer (failure-some c.args.settings.manner reply.answer failed) run.exit;
+      heard = told g (goal.at.returns-then-is_terminal_failure g c).Joined-bounds _ c.meaning_laws.ensures.enough c.replay_laws.ensures.reached c.tell_run.ensures;
     }
 
 pub returns : goal.returns
@@ -68,4 +81,6 @@ returns g c =
         on_err_weaker c.show_ending.result (message-some c.args.settings.manner reply) c.show_ending.ensures.some,
       );
       err = on_err_weaker c.show_ending.result (λ some. message-no_exit c.args.settings.manner c.args.text.now (history_of c.args.session.now) (history_of c.match-bounds.session) reply.answer some run.exit) c.show_ending.ensures.some;
+      heard = HearsAllDone-trans g.L.Listens.hears _ _ _ _ _ _ (told g (goal.at.returns g c).Joined-bounds _ c.meaning_laws.ensures.enough c.replay_laws.ensures.reached c.tell_run.ensures)
+          (HearsAllDone-shown g.L.Listens.hears c.show_ending.result _ _ (history_of c.match-bounds.session) _ refl c.show_ending.ensures.heard c.show_ending.ensures.unheard);
     }

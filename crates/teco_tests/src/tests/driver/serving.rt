@@ -6,9 +6,12 @@ use crate::tests::session::requests::{Over, Trial, holds_once};
 use crate::tests::step::failed_searches;
 use std::alloc::Global;
 use std::test::*;
+use teco_cli::Line;
+use teco_core::Code;
 use teco_io::MemorySource;
-use teco_serve::{Bounds, ClockAlarm, Manner, Served, Settings, Silent, serve};
-use teco_session::Session;
+use teco_journal::Entry;
+use teco_serve::{Bounds, ClockAlarm, Fate, Listens, Manner, Served, Settings, serve};
+use teco_session::{Answered, Session};
 use teco_store::Desk;
 
 /// The bytes of a stream, where `$` is ESC and a backquote the byte 5.
@@ -34,6 +37,43 @@ fn source_of(alloc: Global, stream: &[u8], single: bool, fails: bool) -> MemoryS
     MemorySource::new(bytes_of(alloc, stream), cuts, fails)
 }
 
+/// Counts the strings that are not undone, by what it hears before an answer is shown.
+#[derive(Clone, Copy)]
+struct Counting {
+    strings: u64,
+}
+
+impl Listens for Counting {
+    ghost hears = { λ _ _ _. Unit {0} };
+
+    fn wants_place(&self) -> bool {
+        false
+    }
+
+    fn did(&mut self, entry: Entry<'_>) {
+        self.strings = match entry {
+            Entry::Run { .. } | Entry::Redo => self.strings.saturating_add(1),
+            Entry::Undo => self.strings.saturating_sub(1),
+            Entry::Rewind(_) => self.strings,
+        };
+    }
+
+    fn ran(
+        &mut self,
+        _text: &[u8],
+        _begins: u64,
+        _answered: &Answered,
+        _bounds: Bounds,
+        _session: &Session,
+    ) {}
+
+    fn moved(&mut self, _begins: u64, _code: Option<Code>, _session: &Session) {}
+
+    fn left(&mut self, _bytes: &[u8], _broken_off: bool) {}
+
+    fn ended(&mut self, _line: &Line, _input: &str, _fate: Fate) {}
+}
+
 /// Serves a source, with so many steps for each string.
 fn served_by(
     alloc: Global,
@@ -42,6 +82,7 @@ fn served_by(
     steps: u64,
     prompt: bool,
     term: &mut Screen,
+    listener: &mut Counting,
 ) -> Served {
     let settings = Settings {
         bounds: Bounds {
@@ -55,7 +96,7 @@ fn served_by(
     };
     let clock = Ticking::new();
     let alarm = &mut ClockAlarm::new(&clock);
-    serve(alloc, source, session, settings, alarm, term, &mut Silent)
+    serve(alloc, source, session, settings, alarm, term, listener)
 }
 
 /// Whether the bytes are this text, but for those that it doesn't tell.
@@ -110,10 +151,20 @@ impl Trial for Serving<'_> {
         let (fails, prompt) = (has(said, "fails"), has(said, "prompt"));
         let limit = number_or(cells[5], 1_000_000);
         let mut wanted = end_of(said);
+        let mut listener = Counting { strings: 0 };
         let mut held = true;
         for stream in cells[0].split("[THEN]") {
             let mut source = source_of(alloc, stream.as_bytes(), self.single, fails);
-            held = served_by(alloc, &mut source, session, limit, prompt, term) == wanted && held;
+            let served = served_by(
+                alloc,
+                &mut source,
+                session,
+                limit,
+                prompt,
+                term,
+                &mut listener,
+            );
+            held = served == wanted && held;
             wanted = Served::EndOfCommands;
         }
         held && are_told(shown_on(term), cells[1], self.untold) && is_left(session, cells)

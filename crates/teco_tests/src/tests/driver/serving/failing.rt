@@ -1,5 +1,5 @@
 //! Streams on a terminal that fails after so many bytes, and from a source that does.
-use super::{served_by, source_of};
+use super::{Counting, served_by, source_of};
 use crate::tests::bytes::{Screen, are, put, screen_of, shown_on};
 use crate::tests::rows::{Rule, all_hold, cells_of};
 use crate::tests::session::requests::{Over, Trial, holds_in, holds_once, ran, turned};
@@ -46,7 +46,8 @@ impl Trial for WholeSteps<'_> {
     }
 }
 
-/// Whether a serving on a terminal that takes so many bytes shows those of what is to be typed, and ends so.
+/// Whether a serving on a terminal that takes so many bytes shows those of what is to be typed, and ends so. All that was done is heard,
+/// also where its answer can't be shown.
 fn is_shown(
     alloc: Global,
     source: &mut MemorySource,
@@ -60,8 +61,19 @@ fn is_shown(
         Served::EndOfCommands
     };
     let mut term = screen_of(alloc, room);
-    served_by(alloc, source, session, 1000, false, &mut term) == wanted
+    let mut listener = Counting { strings: 0 };
+    let served = served_by(
+        alloc,
+        source,
+        session,
+        1000,
+        false,
+        &mut term,
+        &mut listener,
+    );
+    served == wanted
         && are(shown_on(&term), &typed[..room.min(typed.len())])
+        && listener.strings == session.cursor() as u64
 }
 
 /// A stream and what it types, on a terminal that takes so many bytes.
@@ -96,7 +108,16 @@ fn left_by(
         Served::ReadFault
     };
     let mut source = source_of(alloc, stream, single, !single);
-    let served = served_by(alloc, &mut source, session, 1000, false, term);
+    let mut listener = Counting { strings: 0 };
+    let served = served_by(
+        alloc,
+        &mut source,
+        session,
+        1000,
+        false,
+        term,
+        &mut listener,
+    );
     let mut left = seen(alloc, session.editor());
     put(&mut left, shown_on(term));
     if served != wanted {
