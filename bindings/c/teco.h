@@ -84,6 +84,9 @@ enum {
     TECO_NTU = 30,        /* there is nothing to undo */
     TECO_NTR = 31,        /* there is nothing to redo */
     TECO_END = 32,        /* an exit has ended the session */
+    TECO_CHANGED_HEAD = 247, /* the bytes begin with no head of a session's file, of this version and as it was written */
+    TECO_TORN_HEAD = 248, /* the bytes end before the head of a session's file does */
+    TECO_OTHERWISE = 249, /* a string does not run again as it ran */
     TECO_NO_TOKEN = 250,  /* no token is left in the text */
     TECO_OUTSIDE = 251,   /* there is no such string, change, splice, register or search text */
     TECO_NOT_BEGUN = 252, /* the history found no memory for the string: it wasn't begun, and nothing changed */
@@ -217,6 +220,68 @@ uint8_t teco_rewind(struct teco *t, uint64_t n);
 
 /* Drops the strings that are undone, so that none is left to redo: 0. Nothing else changes. Asks for no memory; may be made after an exit. */
 uint8_t teco_forget(struct teco *t);
+
+/*
+ * THE FILE OF A SESSION
+ *   What requests do can be kept in a file, from which teco_resume opens the session again, with its registers and all that can be undone.
+ *   The caller writes the file. It begins with the head. After each request that was not refused, and before its answer is shown, the line
+ *   of it comes behind those before. So a crash loses one request at most. Each line has a check of all before it: at a line that was
+ *   changed, lost or doubled a reading stops.
+ */
+
+/* What a request did. */
+enum {
+    TECO_RAN = 1,     /* a string was run: by any answer of teco_run but TECO_END, TECO_NOT_BEGUN and TECO_CLOSED */
+    TECO_UNDID = 2,   /* by teco_undo */
+    TECO_REDID = 3,   /* by teco_redo */
+    TECO_REWOUND = 4, /* by teco_rewind */
+    TECO_FORGOT = 5   /* by teco_forget */
+};
+
+/* A line of the file. The caller sets the first five before a call; the check is set by teco_head or teco_resume, and then by each call. */
+struct teco_line {
+    uint8_t kind;      /* what was done, by its number above; teco_head doesn't look at it */
+    uint64_t steps;    /* of TECO_RAN the steps that it took, of TECO_REWOUND those that teco_rewind was given; else it is not looked at */
+    uint8_t check[16]; /* the check of the line before, and after the call that of this line */
+    uint8_t *room;     /* the line goes here, */
+    size_t room_size;  /* where there is room for so many bytes; if that is too little, nothing is copied, and the check stays */
+    size_t made;       /* the line has so many bytes */
+};
+
+/*
+ * The head of the file of a session that is opened over this input of n bytes and with this depth: 0 or TECO_MEM. It has the input, and
+ * some hundred bytes beside.
+ */
+uint8_t teco_head(const uint8_t *input, size_t n, size_t depth, struct teco_line *line);
+
+/*
+ * The line of what a request did: 0, TECO_OUTSIDE where nothing has the number of its kind, or TECO_MEM. Of TECO_RAN the text of n bytes is
+ * the string; else it is not looked at. A line has no more than three times the bytes of its string, and some sixty beside.
+ */
+uint8_t teco_record(const uint8_t *text, size_t n, struct teco_line *line);
+
+/* What is told of a session that was opened again. */
+struct teco_resumed {
+    uint8_t check[16]; /* the check of the last line that was read, for the next line */
+    size_t good;       /* so many bytes were read; those after them have to be cut off before the next line is written */
+    size_t records;    /* so many requests were done again */
+    uint8_t ending;    /* why the reading ended there, by its number below */
+};
+
+enum {
+    TECO_WHOLE = 0,   /* nothing is left */
+    TECO_TORN = 1,    /* the last line has no end, as after a crash */
+    TECO_CHANGED = 2, /* a line was changed, lost or doubled */
+    TECO_UNKNOWN = 3  /* a line tells nothing that is known here */
+};
+
+/*
+ * Opens the session that n bytes of its file tell, up to where the reading of its lines ends: 0, TECO_TORN_HEAD, TECO_CHANGED_HEAD,
+ * TECO_OTHERWISE, TECO_LARGE, TECO_DEEP or TECO_MEM. Where it isn't 0, the handle and what is told stay as they were; where it is 0, a session
+ * that was open in the handle is freed. Its strings are run again, each to the step that it was kept with, and nothing of what they type is
+ * told.
+ */
+uint8_t teco_resume(struct teco *t, const uint8_t *bytes, size_t n, struct teco_resumed *resumed);
 
 /* A token: its first byte is at `from`, and `to` is the place behind its last. */
 struct teco_token {

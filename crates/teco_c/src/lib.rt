@@ -5,6 +5,7 @@
 
 mod calls;
 mod changes;
+mod files;
 mod history;
 mod state;
 mod stops;

@@ -11,3 +11,5 @@ pub mod Kinds
 pub mod Tokens
 pub mod Frames
 pub mod Runs
+pub mod Lines
+pub mod Resuming

@@ -22,11 +22,23 @@ pub const OUTSIDE: u8 = 251;
 /// No token is left.
 pub const NO_TOKEN: u8 = 250;
 
+/// A string does not run again as it ran.
+pub const OTHERWISE: u8 = 249;
+
+/// The bytes end before the head of a session's file does.
+pub const TORN_HEAD: u8 = 248;
+
+/// They begin with no head of a session's file, of this version and as it was written.
+pub const CHANGED_HEAD: u8 = 247;
+
 /// The place of a string that did not stop before its end, or of which no place is told.
 pub const NOWHERE: usize = usize::MAX;
 
 /// The answers as numbers. The call does nothing.
 pub fn answer_values()
+    ensures changed_head { CHANGED_HEAD ≡ 247 }
+    ensures torn_head { TORN_HEAD ≡ 248 }
+    ensures otherwise { OTHERWISE ≡ 249 }
     ensures no_token { NO_TOKEN ≡ 250 }
     ensures outside { OUTSIDE ≡ 251 }
     ensures not_begun { NOT_BEGUN ≡ 252 }

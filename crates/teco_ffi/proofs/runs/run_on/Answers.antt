@@ -1,5 +1,4 @@
 use Rattle.std.proofs.Common.{None, rules, subst, sym}
-use Rattle.teco_exec.specs.Telling.{KnowsLast, TellsPlace}
 use Rattle.teco_exec.specs.Watching.{Knows}
 use Rattle.teco_session.specs.Answers.{outcome_of}
 use Rattle.teco_session.specs.History.{present}
