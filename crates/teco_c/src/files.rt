@@ -5,7 +5,7 @@ ghost use Rattle.teco_core.specs.declared.code.Code.TheVariants.{Mem};
 ghost use Rattle.teco_journal.specs.Events.{event_of};
 ghost use Rattle.teco_journal.specs.Heads.{first_check, whole_head};
 ghost use Rattle.teco_journal.specs.Lines.{check_of, line_of, words_of};
-ghost use Rattle.teco_ffi.specs.Lines.{IsNotPut, IsPut, KeepsLine, event_named, beginning_asked};
+ghost use Rattle.teco_ffi.specs.Lines.{IsNoLineTold, IsLineTold, KeepsLine, event_named, beginning_asked};
 ghost use Rattle.teco_c.specs.Files.{IsOpenedAgain};
 
 use crate::answers::OUTSIDE;
@@ -19,9 +19,9 @@ use teco_ffi::resuming::{Resumed, session_in};
 /// 0, or the number of MEM where memory is refused. Where the room is too small, nothing is copied and the check stays.
 #[unsafe(no_mangle)]
 pub extern "C" fn teco_head(alloc: Global, input: &[u8], depth: usize, line: &mut Line) -> u8
-    ensures told { result ≡ 0 → IsPut (whole_head (beginning_asked depth input.now)) (first_check (beginning_asked depth input.now))
+    ensures told { result ≡ 0 → IsLineTold (whole_head (beginning_asked depth input.now)) (first_check (beginning_asked depth input.now))
         line.old line.new }
-    ensures refused { result ≢ 0 → IsNotPut line.old line.new }
+    ensures refused { result ≢ 0 → IsNoLineTold line.old line.new }
     ensures else_memory { (result ≡ 0) ⊎ (result ≡ number_of Mem) }
     ensures kept { KeepsLine line.old line.new }
 {
@@ -35,9 +35,9 @@ pub extern "C" fn teco_head(alloc: Global, input: &[u8], depth: usize, line: &mu
 #[unsafe(no_mangle)]
 pub extern "C" fn teco_record(alloc: Global, text: &[u8], line: &mut Line) -> u8
     ensures told { result ≡ 0 → IfSome (event_named line.old.kind line.old.steps text.now) (λ event.
-        IsPut (line_of line.old.check (words_of event)) (check_of line.old.check (words_of event)) line.old line.new) }
+        IsLineTold (line_of line.old.check (words_of event)) (check_of line.old.check (words_of event)) line.old line.new) }
     ensures outside { (result ≡ OUTSIDE) ↔ (event_named line.old.kind line.old.steps text.now ≡ None) }
-    ensures refused { result ≢ 0 → IsNotPut line.old line.new }
+    ensures refused { result ≢ 0 → IsNoLineTold line.old line.new }
     ensures else_memory { (result ≡ 0) ⊎ (result ≡ OUTSIDE) ⊎ (result ≡ number_of Mem) }
     ensures kept { KeepsLine line.old line.new }
 {

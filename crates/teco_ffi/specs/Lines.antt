@@ -21,13 +21,13 @@ abbrev pub beginning_asked : ℕ → List ℕ → Beginning
 beginning_asked depth input = record { lines = 0; depth = depth_asked depth; input = input }
 
 -- These bytes are told: how many they are; and if there is room for them they are copied, and the check is the one after them.
-pub record IsPut (bytes check : List ℕ) (old new : Line) : Type 0 where
+pub record IsLineTold (bytes check : List ℕ) (old new : Line) : Type 0 where
   pub made : new.made ≡ length bytes
   pub room : length bytes ≤ length old.room.now → (new.room.now ≡ filled old.room.now bytes) × (new.check ≡ check)
   pub small : length old.room.now < length bytes → (new.room.now ≡ old.room.now) × (new.check ≡ old.check)
 
 -- Nothing is told.
-pub record IsNotPut (old new : Line) : Type 0 where
+pub record IsNoLineTold (old new : Line) : Type 0 where
   pub made : new.made ≡ 0
   pub room : new.room.now ≡ old.room.now
   pub check : new.check ≡ old.check

@@ -5,7 +5,7 @@ ghost use Rattle.teco_core.specs.declared.code.Code.TheVariants.{Mem};
 ghost use Rattle.teco_journal.specs.Events.{event_of, event_told};
 ghost use Rattle.teco_journal.specs.Heads.{first_check, whole_head};
 ghost use Rattle.teco_journal.specs.Lines.{check_of, line_of, words_of};
-ghost use Rattle.teco_ffi.specs.Lines.{IsNotPut, IsPut, KeepsLine, event_named, beginning_asked};
+ghost use Rattle.teco_ffi.specs.Lines.{IsNoLineTold, IsLineTold, KeepsLine, event_named, beginning_asked};
 
 use crate::answers::OUTSIDE;
 use crate::room::copy_front;
@@ -69,7 +69,7 @@ fn record_named(
 impl Line<'_> {
     /// Tells these bytes, and if there is room for them their check.
     fn put(&mut self, bytes: &[u8], check: [u8; CHECK_LENGTH])
-        ensures put { IsPut bytes.now check self.old self.new }
+        ensures put { IsLineTold bytes.now check self.old self.new }
         ensures kept { KeepsLine self.old self.new }
     {
         self.made = bytes.len();
@@ -99,9 +99,9 @@ fn line_behind(
 /// of MEM.
 pub fn tell_record(alloc: Global, text: &[u8], line: &mut Line) -> u8
     ensures told { result ≡ 0 → IfSome (event_named line.old.kind line.old.steps text.now) (λ event.
-        IsPut (line_of line.old.check (words_of event)) (check_of line.old.check (words_of event)) line.old line.new) }
+        IsLineTold (line_of line.old.check (words_of event)) (check_of line.old.check (words_of event)) line.old line.new) }
     ensures outside { (result ≡ OUTSIDE) ↔ (event_named line.old.kind line.old.steps text.now ≡ None) }
-    ensures refused { result ≢ 0 → IsNotPut line.old line.new }
+    ensures refused { result ≢ 0 → IsNoLineTold line.old line.new }
     ensures else_memory { (result ≡ 0) ⊎ (result ≡ OUTSIDE) ⊎ (result ≡ number_of Mem) }
     ensures kept { KeepsLine line.old line.new }
 {
@@ -124,9 +124,9 @@ pub fn tell_record(alloc: Global, text: &[u8], line: &mut Line) -> u8
 /// Tells the head of the file of a session over this input, of this depth, as `teco_head` of the library for C does. 0, or the number of
 /// MEM.
 pub fn tell_head(alloc: Global, input: &[u8], depth: usize, line: &mut Line) -> u8
-    ensures told { result ≡ 0 → IsPut (whole_head (beginning_asked depth input.now)) (first_check (beginning_asked depth input.now))
+    ensures told { result ≡ 0 → IsLineTold (whole_head (beginning_asked depth input.now)) (first_check (beginning_asked depth input.now))
         line.old line.new }
-    ensures refused { result ≢ 0 → IsNotPut line.old line.new }
+    ensures refused { result ≢ 0 → IsNoLineTold line.old line.new }
     ensures else_memory { (result ≡ 0) ⊎ (result ≡ number_of Mem) }
     ensures kept { KeepsLine line.old line.new }
 {
