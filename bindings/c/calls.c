@@ -467,8 +467,147 @@ static void many(void)
     }
 }
 
+/* A file of a session, in memory. */
+static struct {
+    uint8_t at[4096];
+    size_t count;
+    struct teco_line line;
+} file;
+
+/* Puts the head, or the line of what was done, behind what the file has. */
+static uint8_t keep_head(const char *input, size_t depth)
+{
+    file.line.room = file.at;
+    file.line.room_size = sizeof file.at;
+    uint8_t code = teco_head(bytes(input), strlen(input), depth, &file.line);
+    file.count = file.line.made;
+    return code;
+}
+
+static uint8_t keep(uint8_t kind, uint64_t number, const char *text)
+{
+    file.line.kind = kind;
+    file.line.steps = number;
+    file.line.room = file.at + file.count;
+    file.line.room_size = sizeof file.at - file.count;
+    uint8_t code = teco_record(bytes(text), strlen(text), &file.line);
+    file.count += file.line.made;
+    return code;
+}
+
+/* Runs a string, and keeps it. */
+static uint8_t run_kept(struct teco *t, const char *text)
+{
+    uint8_t code = run(t, text, 64);
+    HOLDS(keep(TECO_RAN, steps, text) == 0);
+    return code;
+}
+
+/* Makes a file of a session: text, an error, a limit, an undo, a redo, a rewind, undone strings that are dropped, and one that is undone. */
+static void make_file(struct teco *t, size_t depth)
+{
+    HOLDS(teco_open(t, bytes("one\ntwo"), 7, depth) == 0 && keep_head("one\ntwo", depth) == 0);
+    HOLDS(run_kept(t, "Y5UQ") == 0 && run_kept(t, "Ia\033Sx\033") == 22 && run_kept(t, "<Ib\033>") == TECO_LIM);
+    HOLDS(teco_undo(t) == 0 && keep(TECO_UNDID, 0, "") == 0 && teco_redo(t) == 0 && keep(TECO_REDID, 0, "") == 0);
+    HOLDS(teco_rewind(t, 4) == 0 && keep(TECO_REWOUND, 4, "") == 0 && teco_undo(t) == 0 && keep(TECO_UNDID, 0, "") == 0);
+    HOLDS(teco_forget(t) == 0 && keep(TECO_FORGOT, 0, "") == 0 && run_kept(t, "ZJI^$\n\033") == 0);
+    HOLDS(run_kept(t, "HK") == 0 && teco_undo(t) == 0 && keep(TECO_UNDID, 0, "") == 0);
+}
+
+/* Whether two sessions have the same text, number in Q, strings and steps, and as many that are not undone. */
+static int are_alike(struct teco *one, struct teco *two)
+{
+    uint8_t texts[2][64];
+    size_t sizes[2], counts[2], cursors[2];
+    uint64_t took[2];
+    int32_t numbers[2];
+    int alike = teco_text(one, 0, texts[0], 64, &sizes[0]) == teco_text(two, 0, texts[1], 64, &sizes[1]) && sizes[0] == sizes[1]
+        && memcmp(texts[0], texts[1], sizes[0]) == 0 && teco_number(one, 'Q', &numbers[0]) == teco_number(two, 'Q', &numbers[1])
+        && numbers[0] == numbers[1] && teco_strings(one, &counts[0]) == teco_strings(two, &counts[1]) && counts[0] == counts[1]
+        && teco_cursor(one, &cursors[0]) == teco_cursor(two, &cursors[1]) && cursors[0] == cursors[1];
+    for (size_t i = 0; alike && i < counts[0]; i++)
+        alike = teco_steps(one, i, &took[0]) == teco_steps(two, i, &took[1]) && took[0] == took[1]
+            && teco_string(one, i, texts[0], 64, &sizes[0]) == teco_string(two, i, texts[1], 64, &sizes[1]) && sizes[0] == sizes[1]
+            && memcmp(texts[0], texts[1], sizes[0]) == 0;
+    return alike;
+}
+
+static void a_session_is_kept_and_opened_again(void)
+{
+    for (size_t depth = 0; depth < 3; depth++) {
+        struct teco t = {0}, again = {0};
+        struct teco_resumed resumed;
+        make_file(&t, depth);
+        HOLDS(teco_resume(&again, file.at, file.count, &resumed) == 0 && are_alike(&t, &again));
+        HOLDS(resumed.good == file.count && resumed.records == 11 && resumed.ending == TECO_WHOLE);
+        HOLDS(memcmp(resumed.check, file.line.check, sizeof resumed.check) == 0);
+        HOLDS(teco_redo(&t) == 0 && teco_redo(&again) == 0 && are_alike(&t, &again) && teco_redo(&again) == TECO_NTR);
+        while (teco_undo(&t) == 0)
+            HOLDS(teco_undo(&again) == 0 && are_alike(&t, &again));
+        HOLDS(teco_undo(&again) == TECO_NTU && teco_resume(&again, file.at, file.count, &resumed) == 0);
+        teco_close(&t);
+        teco_close(&again);
+    }
+}
+
+/* Whether the file is refused so, and the handle and what is told stay. */
+static int is_refused(struct teco *t, size_t count, uint8_t code)
+{
+    struct teco_resumed resumed = {.good = 77, .ending = 77};
+    void *was = t->at;
+    return teco_resume(t, file.at, count, &resumed) == code && t->at == was && resumed.good == 77 && resumed.ending == 77;
+}
+
+static void a_file_ends_anywhere_and_is_changed_anywhere(void)
+{
+    struct teco t = {0}, again = {0};
+    struct teco_resumed resumed;
+    make_file(&t, 0);
+    size_t head = (size_t)((uint8_t *)strstr((char *)file.at, " begun\n") - file.at) + 7;
+    HOLDS(is_refused(&t, 0, TECO_TORN_HEAD) && is_refused(&t, head - 1, TECO_TORN_HEAD) && is_refused(&again, 20, TECO_TORN_HEAD));
+    HOLDS(teco_resume(&again, file.at, head, &resumed) == 0 && resumed.records == 0 && teco_strings(&again, &n) == 0 && n == 0);
+    HOLDS(teco_resume(&again, file.at, file.count - 1, &resumed) == 0 && resumed.ending == TECO_TORN && resumed.records == 10);
+    HOLDS(resumed.good < file.count && file.at[resumed.good - 1] == '\n' && teco_cursor(&again, &n) == 0 && n == 4);
+    file.at[head + 20]++;
+    HOLDS(teco_resume(&again, file.at, file.count, &resumed) == 0 && resumed.ending == TECO_CHANGED && resumed.good == head);
+    file.at[head - 20]++;
+    HOLDS(is_refused(&t, file.count, TECO_CHANGED_HEAD));
+    file.at[13]++;
+    HOLDS(is_refused(&t, file.count, TECO_CHANGED_HEAD));
+    HOLDS(keep_head("one", 0) == 0 && keep(TECO_RAN, 2, "Y") == 0 && is_refused(&t, file.count, TECO_OTHERWISE));
+    HOLDS(keep_head("one", 0) == 0 && keep(TECO_UNDID, 0, "") == 0 && is_refused(&t, file.count, TECO_OTHERWISE));
+    HOLDS(keep_head("one", TECO_DEPTH_LIMIT + 1) == 0 && is_refused(&t, file.count, TECO_DEEP));
+    teco_close(&t);
+    teco_close(&again);
+}
+
+static void a_line_that_does_not_fit_is_not_copied(void)
+{
+    uint8_t small[24];
+    memset(small, '.', sizeof small);
+    HOLDS(keep_head("one", 0) == 0);
+    struct teco_line line = file.line, before;
+    line.kind = TECO_RAN;
+    line.steps = 1;
+    line.room = small;
+    line.room_size = 23;
+    before = line;
+    HOLDS(teco_record(bytes("Y"), 1, &line) == 0 && line.made == 25 && small[0] == '.' && memcmp(line.check, before.check, 16) == 0);
+    line.kind = TECO_UNDID;
+    HOLDS(teco_record(bytes(""), 0, &line) == 0 && line.made == 22 && memcmp(small + 16, " undo\n.", 7) == 0 && memcmp(small, line.check, 16) == 0);
+    before = line;
+    for (int kind = 0; kind < 256; kind += kind == 0 ? 6 : 1) {
+        line.kind = (uint8_t)kind;
+        HOLDS(teco_record(bytes(""), 0, &line) == TECO_OUTSIDE && line.made == 0 && memcmp(line.check, before.check, 16) == 0);
+    }
+    HOLDS(teco_head(bytes("one"), 3, 0, &line) == 0 && line.made > 23 && memcmp(small + 16, " undo\n.", 7) == 0);
+}
+
 int main(void)
 {
+    a_session_is_kept_and_opened_again();
+    a_file_ends_anywhere_and_is_changed_anywhere();
+    a_line_that_does_not_fit_is_not_copied();
     opens();
     runs();
     stops();

@@ -138,6 +138,35 @@ static long try_stopper(long nth)
     return opened == 0 ? 0 : counted;
 }
 
+/* The file of a session, of which this growth is refused: then nothing is told, and a handle stays as it was. Tells how many growths there
+   were. */
+static long try_file(long nth)
+{
+    static uint8_t file[1024];
+    struct teco t = {0};
+    struct teco_line line = {.kind = TECO_RAN, .steps = 1, .room = file, .room_size = sizeof file}, before;
+    struct teco_resumed resumed = {.good = 7};
+    begin(nth, nth);
+    int codes[3] = {teco_head((const uint8_t *)"one", 3, 0, &line)};
+    size_t count = line.made;
+    before = line;
+    line.room += count;
+    codes[1] = teco_record((const uint8_t *)"Y", 1, &line);
+    if (codes[1] != 0 && (line.made != 0 || memcmp(line.check, before.check, sizeof line.check) != 0))
+        wrong("a refused line is told", nth, -1);
+    count += line.made;
+    codes[2] = teco_resume(&t, file, count, &resumed);
+    long counted = end();
+    if (codes[2] == 0 ? resumed.good != count || t.at == NULL : resumed.good != 7 || t.at != NULL)
+        wrong("a refused session is told or left otherwise", nth, -1);
+    for (int i = 0; i < 3; i++) {
+        if (codes[i] != 0 && codes[i] != TECO_MEM && !(i == 2 && codes[0] != 0))
+            wrong("a refusal is told otherwise", nth, i);
+    }
+    teco_close(&t);
+    return codes[0] == 0 && codes[1] == 0 && codes[2] == 0 ? 0 : counted;
+}
+
 int main(void)
 {
     *(void **)&begin = dlsym(RTLD_DEFAULT, "growths_begin");
@@ -156,5 +185,10 @@ int main(void)
         refused++;
     printf("growths: %ld refused in turn, of a stopper: %s\n", refused, failed ? "differs" : "ok");
     failed |= refused < 3;
+    refused = 0;
+    while (refused < NEVER && try_file(refused + 1) > 0)
+        refused++;
+    printf("growths: %ld refused in turn, of a session's file: %s\n", refused, failed ? "differs" : "ok");
+    failed |= refused < 9;
     return failed;
 }
