@@ -4,11 +4,13 @@
 //! it is neither `Send` nor `Sync`.
 
 mod change;
+mod file;
 mod raw;
 mod stopper;
 mod token;
 
 pub use change::{Change, Kind};
+pub use file::{Ending, Entry, Lines, Resumed, Unread};
 use std::fmt;
 use std::ptr;
 pub use stopper::Stopper;

@@ -61,6 +61,25 @@ pub struct Splice {
     pub came: usize,
 }
 
+#[repr(C)]
+pub struct Line {
+    pub kind: u8,
+    pub steps: u64,
+    pub check: [u8; 16],
+    pub room: *mut u8,
+    pub room_size: usize,
+    pub made: usize,
+}
+
+#[repr(C)]
+#[derive(Default)]
+pub struct Resumed {
+    pub check: [u8; 16],
+    pub good: usize,
+    pub records: usize,
+    pub ending: u8,
+}
+
 extern "C" {
     pub fn teco_open(t: *mut Handle, input: *const u8, n: usize, depth: usize) -> u8;
     pub fn teco_close(t: *mut Handle);
@@ -72,6 +91,9 @@ extern "C" {
     pub fn teco_redo(t: *mut Handle) -> u8;
     pub fn teco_rewind(t: *mut Handle, n: u64) -> u8;
     pub fn teco_forget(t: *mut Handle) -> u8;
+    pub fn teco_head(input: *const u8, n: usize, depth: usize, line: *mut Line) -> u8;
+    pub fn teco_record(text: *const u8, n: usize, line: *mut Line) -> u8;
+    pub fn teco_resume(t: *mut Handle, bytes: *const u8, n: usize, resumed: *mut Resumed) -> u8;
     pub fn teco_token(text: *const u8, n: usize, at: usize, token: *mut Token) -> u8;
     pub fn teco_strings(t: *const Handle, count: *mut usize) -> u8;
     pub fn teco_cursor(t: *const Handle, count: *mut usize) -> u8;
