@@ -3,12 +3,14 @@
 import copy
 import os
 import pickle
+import resource
 import signal
 import sys
+import tempfile
 import threading
 
-from teco import (DEEP, IQC, IQN, ILL, LIM, NO_TOKEN, NTR, NTU, OUTSIDE, POP, TTY, UTC, CLOSED, Call, Frames, Place, Refused, Session,
-                  Stopper, Token, token)
+from teco import (CHANGED_HEAD, CLOSED, DEEP, END, IQC, IQN, ILL, LIM, NO_TOKEN, NTR, NTU, OTHERWISE, OUTSIDE, POP, RAN, TORN_HEAD, TTY, UNDID,
+                  UTC, Call, Damaged, Frames, Place, Refused, Session, Stopper, Token, resume, token)
 
 failed = False
 
@@ -202,6 +204,153 @@ def forks():
     holds(os.waitpid(child, 0)[1] == 0, "a fork")
 
 
+def bytes_of(path):
+    with open(path, "rb") as file:
+        return file.read()
+
+
+def seen(session):
+    """The state of a session and its history."""
+    counts = [session.steps(i) for i in range(len(session.strings))]
+    return session.text, session.pointer, session.number("Q"), session.input, session.done, session.strings, session.cursor, counts
+
+
+def is_again(session, path, name):
+    """Whether the session is opened again as it is."""
+    was = seen(session)
+    session.close()
+    with resume(path) as again:
+        holds(seen(again) == was, name)
+
+
+def keeps(folder):
+    """Each request is kept before its call returns, and a refused one is not."""
+    for depth in range(3):
+        path = os.path.join(folder, f"depth {depth}")
+        session = Session(b"one\ntwo", depth, path)
+        lines = [bytes_of(path)]
+        for call in (lambda: session.run(b"Y5UQ"), lambda: session.run_where(b"Ia\n\x1b9J"), lambda: session.run_frames(b"<Ib\x1b>", 9),
+                     session.undo, session.redo, lambda: session.rewind(4), session.undo, session.forget, lambda: session.run(b"HK"),
+                     session.undo):
+            call()
+            holds(bytes_of(path).startswith(lines[-1]) and bytes_of(path)[len(lines[-1]):].count(b"\n") == 1, "a line")
+            lines.append(bytes_of(path))
+        session.redo()
+        for _ in range(2):
+            refused(NTR, session.redo, "redo")
+        holds(bytes_of(path).count(b"redo\n") == 2, "a refused redo is not kept")
+        refused(BlockingIOError, lambda: resume(path), "two sessions of a file")
+        session.undo()
+        is_again(session, path, "opened again")
+        again = resume(path)
+        again.redo()
+        again.run(b"Ic\x1bEX")
+        refused(END, lambda: again.run(b"J"), "after an exit")
+        is_again(again, path, "went on")
+        again.__init__(b"two")
+        size = len(bytes_of(path))
+        again.run(b"J")
+        holds(len(bytes_of(path)) == size, "another session in its place")
+
+
+def damages(folder):
+    path = os.path.join(folder, "damages")
+    session = Session(b"one", file=path)
+    head = len(bytes_of(path))
+    session.run(b"Y")
+    is_whole = bytes_of(path)
+    session.run(b"Ia\x1b")
+    session.close()
+    two = bytes_of(path)
+    refused(FileExistsError, lambda: Session(b"", file=path), "a file that is there")
+    refused(FileNotFoundError, lambda: resume(path + "?"), "no file")
+    refused(TypeError, lambda: Session(b"", file=5), "no path")
+    refused(DEEP, lambda: Session(b"", 100001, path + "?"), "a depth above the limit")
+    holds(bytes_of(path) == two and not os.path.exists(path + "?"), "refused, and nothing changed")
+
+    def put(content):
+        with open(path, "wb") as file:
+            file.write(content)
+
+    put(two[:-1])
+    with resume(path) as again:
+        holds(again.strings == [b"Y"] and bytes_of(path) == is_whole, "a torn end is cut off")
+        again.run(b"Ia\x1b")
+    holds(bytes_of(path) == two, "the next line")
+    for content, good, strings in ((is_whole + b"?" + two[len(is_whole) + 1:], len(is_whole), [b"Y"]), (two[:head] + two[len(is_whole):], head, [])):
+        put(content)
+        refused(Damaged, lambda: resume(path), "a line that was changed, or lost")
+        holds(bytes_of(path) == content, "it stays")
+        with resume(path, cut=True) as again:
+            holds(again.strings == strings and len(bytes_of(path)) == good, "cut")
+    for content, code in ((b"", TORN_HEAD), (two[:head - 1], TORN_HEAD), (b"some text", CHANGED_HEAD)):
+        put(content)
+        refused(code, lambda: resume(path), "no file of a session")
+        holds(bytes_of(path) == content, "it stays as it is")
+    for number, kept in enumerate(((RAN, 2, b"Y"), (UNDID,))):
+        with Session(b"", file=path + str(number)) as other:
+            other._keep(*kept)
+        refused(OTHERWISE, lambda: resume(path + str(number)), "a string that runs otherwise")
+
+
+def no_memory(*_):
+    raise MemoryError
+
+
+def unwritten(folder):
+    """What can't be written comes with the next line."""
+    path = os.path.join(folder, "unwritten")
+    session = Session(b"one", file=path)
+    size, most = len(bytes_of(path)), resource.getrlimit(resource.RLIMIT_FSIZE)
+    resource.setrlimit(resource.RLIMIT_FSIZE, (size + 9, most[1]))
+    refused(OSError, lambda: session.run(b"Y"), "a full disk")
+    refused(OSError, lambda: session.run(b"Ia\x1b"), "a full disk")
+    resource.setrlimit(resource.RLIMIT_FSIZE, most)
+    holds(len(bytes_of(path)) == size + 9 and session.text == b"aone", "done, and not kept")
+    session._made = no_memory
+    refused(MemoryError, session.undo, "no memory for a line")
+    del session._made
+    session.redo()
+    is_again(session, path, "kept later")
+
+
+def interrupts_kept(folder):
+    """Ctrl-C breaks a string off, which is kept; and where it comes between a request and its line, the line is written first."""
+    path = os.path.join(folder, "interrupts")
+    session = Session(b"one", file=path)
+    later(lambda: os.kill(os.getpid(), signal.SIGINT))
+    refused(KeyboardInterrupt, lambda: session.run(**ENDLESS), "interrupted")
+    put = session._file.put
+
+    def put_late(line):
+        os.kill(os.getpid(), signal.SIGINT)
+        put(line)
+
+    session._file.put = put_late
+    for call in session.undo, session.redo, lambda: session.run(b"Ia\x1b"):
+        refused(KeyboardInterrupt, call, "interrupted before its line")
+    session._file.put = put
+    holds(signal.getsignal(signal.SIGINT) is signal.default_int_handler and session.cursor == 2, "as before")
+    is_again(session, path, "kept all the same")
+
+
+def kept_elsewhere(folder):
+    """On another thread than the main one."""
+    path = os.path.join(folder, "elsewhere")
+    session = Session(b"one", file=path)
+    session.run(b"Y")
+    is_again(session, path, "on another thread")
+
+
+def files():
+    with tempfile.TemporaryDirectory() as folder:
+        for rows in keeps, damages, unwritten, interrupts_kept:
+            rows(folder)
+        thread = threading.Thread(target=kept_elsewhere, args=[folder])
+        thread.start()
+        thread.join()
+
+
 calls()
 tokens()
 refusals()
@@ -212,5 +361,6 @@ thread.start()
 thread.join()
 breaks()
 interrupts()
+files()
 forks()
 sys.exit(failed)

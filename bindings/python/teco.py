@@ -6,6 +6,9 @@ one, OverflowError for one that is too large, RuntimeError on another thread tha
 copied.
 
 A string that runs is broken off by a Stopper, from any thread; and by Ctrl-C on the main thread, and then KeyboardInterrupt is raised.
+
+With a `file` a session is kept: each request's line is written to it before the call returns, also where Ctrl-C comes meanwhile. `resume`
+goes on with it, after a crash too. No fsync is made: what the system has not yet put on its disk is lost where power fails.
 """
 
 import ctypes
@@ -17,11 +20,15 @@ from collections import namedtuple
 from contextlib import contextmanager
 from ctypes import POINTER, byref, c_int32, c_size_t, c_uint8, c_uint64, c_void_p
 
+from teco_file import File, begun, held
 from teco_interrupts import breaking_off, is_main
 
 ILL, IQC, IQN, POP, UTC, LIM = 7, 9, 10, 20, 24, 27
 MEM, TTY, NTU, NTR, END = 28, 29, 30, 31, 32
+CHANGED_HEAD, TORN_HEAD, OTHERWISE = 247, 248, 249
 NO_TOKEN, OUTSIDE, NOT_BEGUN, DEEP, LARGE, CLOSED = 250, 251, 252, 253, 254, 255
+RAN, UNDID, REDID, REWOUND, FORGOT = 1, 2, 3, 4, 5
+WHOLE, TORN, CHANGED, UNKNOWN = 0, 1, 2, 3
 KINDS = (None, "splice", "point", "number", "text", "push", "pop", "pages", "search", "found", "done", "mode")
 TOKENS = (None, "digits", "value", "arithmetic", "level", "command", "register", "byte", "text", "jump", "set_text", "replace", "mark",
           "test", "tag", "escape")
@@ -77,12 +84,25 @@ class ToldSplice(ctypes.Structure):
     _fields_ = [("at", c_size_t), ("gone", c_size_t), ("came", c_size_t)]
 
 
+Check = c_uint8 * 16
+
+
+class Line(ctypes.Structure):
+    """A line of the file of a session."""
+    _fields_ = [("kind", c_uint8), ("steps", c_uint64), ("check", Check), ("room", POINTER(c_uint8)), ("room_size", c_size_t),
+                ("made", c_size_t)]
+
+
+class ToldSession(ctypes.Structure):
+    _fields_ = [("check", Check), ("good", c_size_t), ("records", c_size_t), ("ending", c_uint8)]
+
+
 def _calls():
     """The arguments of each call of teco.h, after its handle."""
     size, word = POINTER(c_size_t), POINTER(c_uint64)
     room = [c_void_p, c_size_t]
     return {
-        "open": [c_void_p, c_size_t, c_size_t],
+        "open": [c_void_p, c_size_t, c_size_t], "resume": [c_void_p, c_size_t, POINTER(ToldSession)],
         "run": [c_void_p, c_size_t, POINTER(Run)],
         "undo": [], "redo": [], "rewind": [c_uint64], "forget": [],
         "strings": [size], "cursor": [size], "steps": [c_size_t, word],
@@ -104,6 +124,8 @@ def _library():
         call.argtypes, call.restype = [POINTER(Handle), *arguments], c_uint8
     library.teco_close.argtypes, library.teco_close.restype = [POINTER(Handle)], None
     library.teco_token.argtypes, library.teco_token.restype = [c_void_p, c_size_t, c_size_t, POINTER(ToldToken)], c_uint8
+    library.teco_head.argtypes, library.teco_head.restype = [c_void_p, c_size_t, c_size_t, POINTER(Line)], c_uint8
+    library.teco_record.argtypes, library.teco_record.restype = [c_void_p, c_size_t, POINTER(Line)], c_uint8
     stopper = POINTER(StopperHandle)
     library.teco_stopper_open.argtypes, library.teco_stopper_open.restype = [stopper, stopper], c_uint8
     library.teco_stopper_close.argtypes, library.teco_stopper_close.restype = [stopper], None
@@ -175,6 +197,33 @@ class Refused(Exception):
         self.answer = answer
 
 
+class Damaged(Exception):
+    """A line of a session's file was changed, lost or doubled, or is of no known kind. It is behind so many `good` bytes."""
+
+    def __init__(self, good):
+        super().__init__(f"damaged behind {good} bytes")
+        self.good = good
+
+
+def resume(path, cut=False):
+    """The session that its file tells, with its strings, the undone ones too; the file is kept on. A last line that a crash has torn is cut
+    off. If a line was changed, Damaged is raised; with `cut` all from that line on is cut off instead. What is no such file is Refused by
+    CHANGED_HEAD or TORN_HEAD, and OTHERWISE is a string that does not run as it ran: then the file stays as it is."""
+    session, told, file = Session.__new__(Session), ToldSession(), File(path, os.O_RDWR)
+    try:
+        text = file.bytes()
+        session._call("resume", text, len(text), byref(told))
+        if told.ending in (CHANGED, UNKNOWN) and not cut:
+            raise Damaged(told.good)
+        if told.good < len(text):
+            file.cut(told.good)
+    except BaseException:
+        file.close()
+        raise
+    session._file, session._line.check = file, told.check
+    return session
+
+
 class Stopper:
     """Breaks a string off that runs with it: `ask` does, on whatever thread. It stays asked until `take_back`, so a string that begins
     meanwhile is broken off before its first step. It serves one run at a time."""
@@ -224,16 +273,30 @@ class Stopper:
 
 
 class Session:
-    """An open session over a copy of the input, that keeps the last `depth` strings, or all of them where that is 0."""
+    """An open session over a copy of the input, that keeps the last `depth` strings, or all of them where that is 0.
+
+    `file` is the path of a new file: the head is written before this returns, and then the line of each run, undo, redo, rewind and forget
+    before that returns. A call that is Refused has none. If a write fails, OSError is raised, but the request is done: its line comes with
+    the next one, so the file has a whole beginning of the session at any time. A handler of a signal, other than that of Ctrl-C, may not
+    raise while a request runs. A process that was forked may not use the session."""
 
     def __new__(cls, *_, **__):
         session = super().__new__(cls)
         session._handle, session._thread, session._stopper = Handle(), threading.get_ident(), None
+        session._file, session._line, session._unkept = None, Line(), []
         return session
 
-    def __init__(self, text=b"", depth=0):
-        text = _bytes(text)
-        self._call("open", text, len(text), _size(depth))
+    def __init__(self, text=b"", depth=0, file=None):
+        text, depth = _bytes(text), _size(depth)
+        self._call("open", text, len(text), depth)
+        self._leave_file()
+        if file is None:
+            return
+        try:
+            self._file = begun(file, self._made(lambda line: _teco().teco_head(text, len(text), depth, line)))
+        except BaseException:
+            self.close()
+            raise
 
     def __copy__(self):
         raise TypeError("a session can't be copied")
@@ -253,6 +316,38 @@ class Session:
         answer = self._answer(name, *arguments)
         if answer:
             raise Refused(answer)
+
+    def _made(self, call):
+        """The bytes of the line that a call makes. Asks for their number first, which leaves the check as it is."""
+        line, size = self._line, 0
+        for _ in range(2):
+            room = _room(size)
+            line.room, line.room_size = ctypes.cast(room, POINTER(c_uint8)), size
+            if call(byref(line)):
+                raise MemoryError
+            size = line.made
+        return room.raw[:size]
+
+    def _keep(self, kind, steps=0, text=b""):
+        """Puts the line of what a request did into the file, if there is one, behind those that couldn't be put."""
+        if self._file is None:
+            return
+        self._unkept.append((kind, steps, text))
+        while self._unkept:
+            self._line.kind, self._line.steps, text = self._unkept[0]
+            line = self._made(lambda line: _teco().teco_record(text, len(text), line))
+            self._unkept.pop(0)
+            self._file.put(line)
+
+    def _request(self, name, kind, *steps):
+        with held(self._file):
+            self._call(name, *steps)
+            self._keep(kind, *steps)
+
+    def _leave_file(self):
+        if self._file is not None:
+            self._file.close()
+        self._file, self._unkept = None, []
 
     def _told(self, kind, name, *arguments):
         value = kind()
@@ -284,14 +379,16 @@ class Session:
         text, limit, typed, stopper = _bytes(text), _steps(limit), _room(room), self._stopper_of(stopper)
         calls = (OpenCall * MOST_CALLS)()
         run = Run(limit=limit, room=ctypes.cast(typed, POINTER(c_uint8)), room_size=len(typed) - 1, frames=calls, frames_size=MOST_CALLS)
-        if stopper is None:
-            answer = self._answer("run", text, len(text), byref(run))
-        else:
-            with stopper._lent() as handle, breaking_off(stopper):
-                run.stopper = handle
+        with held(self._file):
+            if stopper is None:
                 answer = self._answer("run", text, len(text), byref(run))
-        if answer in (NOT_BEGUN, END, CLOSED):
-            raise Refused(answer)
+            else:
+                with stopper._lent() as handle, breaking_off(stopper):
+                    run.stopper = handle
+                    answer = self._answer("run", text, len(text), byref(run))
+            if answer in (NOT_BEGUN, END, CLOSED):
+                raise Refused(answer)
+            self._keep(RAN, run.steps, text)
         return (answer, typed.raw[:run.made], run.steps), run, calls[:run.calls]
 
     def run(self, text, limit=1000000, room=65536, stopper=None):
@@ -311,22 +408,23 @@ class Session:
         return *ran, Frames(run.inner, [Call(one.at, chr(one.name)) for one in calls]) if run.inner != NOWHERE else None
 
     def undo(self):
-        self._call("undo")
+        self._request("undo", UNDID)
 
     def redo(self):
-        self._call("redo")
+        self._request("redo", REDID)
 
     def rewind(self, n):
-        self._call("rewind", _steps(n))
+        self._request("rewind", REWOUND, _steps(n))
 
     def forget(self):
         """Drops the strings that are undone, so that none is left to redo."""
-        self._call("forget")
+        self._request("forget", FORGOT)
 
     def close(self):
         if threading.get_ident() != self._thread:
             raise RuntimeError("a session stays on the thread that opened it")
         _teco().teco_close(byref(self._handle))
+        self._leave_file()
 
     @property
     def text(self):
@@ -426,3 +524,4 @@ class Session:
         # Nobody else has it any more, on whatever thread this is.
         if _loaded is not None and self._handle.at is not None:
             _loaded.teco_close(byref(self._handle))
+        self._leave_file()
