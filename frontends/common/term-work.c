@@ -42,6 +42,7 @@ enum fate work_open(struct work *work, const struct options *options)
 void work_close(struct work *work)
 {
     journal_free(&work->journal);
+    past_free();
     teco_close(&work->session);
     teco_stopper_close(&work->asked);
     teco_stopper_close(&work->asks);
@@ -147,6 +148,7 @@ static void run(struct work *work, const uint8_t *text, size_t n, struct told *t
     told->is_broken_off = told->code == TECO_LIM && told->steps < limit;
     if (told->code != TECO_NOT_BEGUN && told->code != TECO_END)
         journal_note(&work->journal, text, n, told->code, told->steps);
+    (void)past_add(text, n > 0 && text[n - 1] == ESCAPE ? n - 1 : n);
 }
 
 struct told work_do(struct work *work, const uint8_t *text, size_t n)

@@ -2,7 +2,8 @@
  * terminal.h - what the programs for a person at a terminal share: teco-term, and teco-screen of frontends/screen
  *
  * term-options.c reads the line of a program, and says how it ended. term-work.c does what a string asks, over a session; term-journal.c
- * keeps the strings, and leaves them in a file where the program is ended. term-codes.c has the sentences of the codes. term-file.c reads
+ * keeps the strings, and leaves them in a file where the program is ended; term-past.c keeps all that were ever run, so that they come back
+ * as text. term-codes.c has the sentences of the codes. term-file.c reads
  * INPUT and writes the output; term-tty.c sets the terminal, and term-read.c reads it, also while a string runs; term-keys.c tells keys,
  * sequences and pastes apart.
  */
@@ -121,6 +122,17 @@ const uint8_t *journal_text(const struct journal *journal, size_t i, size_t *n);
 /* From now on journal_leave writes this one: beside INPUT, as a source that tecol reads. It may be called by a signal's handler. */
 void journal_watch(const struct journal *journal, const char *input);
 void journal_leave(void);
+
+/* THE STRINGS THAT CAN COME BACK AS TEXT */
+
+/* Keeps a string that was run, as it was typed, without its pair of ESC. One that is the same as the last is kept once, and an empty one
+   isn't. False where memory is refused: then it is not kept. */
+bool past_add(const uint8_t *bytes, size_t length);
+
+/* How many there are, and string k of them, where 0 is the oldest. Its bytes stay until the next one is kept. */
+size_t past_count(void);
+const uint8_t *past_at(size_t k, size_t *length);
+void past_free(void);
 
 /* WHAT A STRING ASKS */
 
