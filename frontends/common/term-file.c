@@ -2,13 +2,24 @@
 #include "terminal.h"
 #include <errno.h>
 #include <fcntl.h>
+#include <poll.h>
 #include <stdio.h>
 #include <stdlib.h>
 #include <string.h>
 #include <sys/stat.h>
 #include <unistd.h>
 
-enum { PIECE = 65536, DRAFTS = 100 };
+/* The milliseconds for which a pipe is waited for, before Ctrl-C is looked for again. */
+enum { PIECE = 65536, DRAFTS = 100, MOMENT = 20 };
+
+/* The draft that is being filled, which a handler takes away. */
+static char *volatile open_draft;
+
+void file_drop_draft(void)
+{
+    if (open_draft != NULL)
+        (void)unlink(open_draft);
+}
 
 bool bytes_reserve(struct bytes *bytes, size_t n)
 {
@@ -39,11 +50,13 @@ void bytes_free(struct bytes *bytes)
     *bytes = (struct bytes){0};
 }
 
-static enum fate read_all(int file, struct bytes *to)
+enum fate file_take(int file, struct bytes *to)
 {
     static uint8_t piece[PIECE];
     ssize_t n;
-    while ((n = read(file, piece, sizeof piece)) > 0) {
+    while ((n = read(file, piece, sizeof piece)) > 0 || (n < 0 && errno == EINTR)) {
+        if (n < 0)
+            continue;
         if ((size_t)n > TECO_INPUT_LIMIT - to->count)
             return LARGE_INPUT;
         if (!bytes_add(to, piece, (size_t)n))
@@ -57,7 +70,7 @@ enum fate file_read(const char *name, struct bytes *to, struct stat *about)
     int file = open(name, O_RDONLY | O_CLOEXEC);
     if (file < 0)
         return NO_INPUT;
-    enum fate fate = fstat(file, about) == 0 ? read_all(file, to) : NO_INPUT;
+    enum fate fate = fstat(file, about) == 0 ? file_take(file, to) : NO_INPUT;
     if (close(file) != 0 && fate == GOES_ON)
         fate = NO_INPUT;
     return fate;
@@ -79,19 +92,30 @@ static bool end_file(int file, bool has_worked)
     return has_worked && is_closed;
 }
 
+/* Whether a call that failed is to be made again: it was interrupted, or a pipe is waited for, until Ctrl-C breaks that off. */
+static bool is_awaited(int file, int reason)
+{
+    int why = errno;
+    if (why == reason) {
+        (void)poll(&(struct pollfd){.fd = file, .events = POLLOUT}, 1, MOMENT);
+        errno = ECANCELED;
+    }
+    return why == EINTR || (why == reason && !tty_is_broken_off());
+}
+
 static bool write_all(int file, const uint8_t *bytes, size_t n)
 {
     while (n > 0) {
         ssize_t written = write(file, bytes, n);
-        if (written < 0)
+        if (written < 0 && !is_awaited(file, EAGAIN))
             return false;
-        bytes += written;
-        n -= (size_t)written;
+        bytes += written < 0 ? 0 : written;
+        n -= written < 0 ? 0 : (size_t)written;
     }
     return true;
 }
 
-static bool write_output(int file, struct teco *session)
+bool file_put(int file, const struct teco *session)
 {
     static uint8_t piece[PIECE];
     size_t from = 0, left;
@@ -106,12 +130,18 @@ static bool write_output(int file, struct teco *session)
     return true;
 }
 
-static bool append(const char *name, struct teco *session)
+/* Where nobody reads a pipe yet, its reader is waited for. */
+static bool append(const char *name, const struct teco *session)
 {
-    int file = open(name, O_WRONLY | O_APPEND | O_CREAT | O_CLOEXEC, 0666);
+    struct stat about;
+    bool is_pipe = stat(name, &about) == 0 && S_ISFIFO(about.st_mode);
+    int flags = O_WRONLY | O_APPEND | O_CREAT | O_CLOEXEC | (is_pipe ? O_NONBLOCK : 0), file;
+    do
+        file = open(name, flags, 0666);
+    while (file < 0 && is_awaited(-1, is_pipe ? ENXIO : EINTR));
     if (file < 0)
         return false;
-    return end_file(file, write_output(file, session));
+    return end_file(file, file_put(file, session));
 }
 
 /* The group, the owner and the permissions of the file whose place it takes, as far as the system lets us. */
@@ -129,6 +159,8 @@ static int make_draft(const char *name, char *draft, size_t size, mode_t mode)
     const char *slash = strrchr(name, '/');
     int folder = slash == NULL ? 0 : (int)(slash + 1 - name);
     int file = -1;
+    sigset_t usual;
+    bool is_blocked = tty_block(&usual);
     errno = EEXIST;
     for (long number = getpid(), end = number + DRAFTS; file < 0 && errno == EEXIST && number < end; number++) {
         (void)snprintf(draft, size, "%.*s.teco-%ld", folder, name, number);
@@ -136,13 +168,16 @@ static int make_draft(const char *name, char *draft, size_t size, mode_t mode)
             strcat(draft, "-");
         file = open(draft, O_WRONLY | O_CREAT | O_EXCL | O_CLOEXEC, mode);
     }
+    open_draft = file >= 0 ? draft : NULL;
+    if (is_blocked)
+        tty_unblock(&usual);
     return file;
 }
 
 /* Fills the draft, waits until it outlasts a crash, and gives it the file's name. Where that fails, it is removed. */
-static bool fill_draft(int file, const char *draft, const char *name, const struct stat *old, struct teco *session)
+static bool fill_draft(int file, const char *draft, const char *name, const struct stat *old, const struct teco *session)
 {
-    bool written = write_output(file, session);
+    bool written = file_put(file, session);
     if (written && old != NULL)
         make_like(file, old);
     written = end_file(file, written && fsync(file) == 0);
@@ -155,7 +190,7 @@ static bool fill_draft(int file, const char *draft, const char *name, const stru
 }
 
 /* Replaces the file that `old` tells of, or makes a new one where that is null. */
-static enum fate replace(const char *name, const struct stat *old, struct teco *session)
+static enum fate replace(const char *name, const struct stat *old, const struct teco *session)
 {
     size_t size = strlen(name) + sizeof ".teco--" + 20;
     char *draft = malloc(size);
@@ -163,12 +198,13 @@ static enum fate replace(const char *name, const struct stat *old, struct teco *
         return NO_MEMORY;
     int file = make_draft(name, draft, size, old == NULL ? 0666 : 0600);
     bool written = file >= 0 && fill_draft(file, draft, name, old, session);
+    open_draft = NULL;
     free(draft);
     return written ? EXIT : NO_OUTPUT;
 }
 
 /* Writes to what is at the end of a path without links: a file that may be written is replaced, and all else gets the output. */
-static enum fate write_over(const char *path, struct teco *session)
+static enum fate write_over(const char *path, const struct teco *session)
 {
     struct stat old;
     if (stat(path, &old) != 0)
@@ -182,7 +218,7 @@ static enum fate write_over(const char *path, struct teco *session)
 }
 
 /* A link under /dev or /proc leads to an open file, and one that leads nowhere yet makes a file there: the output goes through both. */
-enum fate file_write(const char *name, struct teco *session)
+enum fate file_write(const char *name, const struct teco *session)
 {
     struct stat about;
     bool is_there = lstat(name, &about) == 0;

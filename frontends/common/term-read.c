@@ -4,6 +4,7 @@
 #include <errno.h>
 #include <poll.h>
 #include <pthread.h>
+#include <stdatomic.h>
 #include <string.h>
 #include <sys/select.h>
 #include <unistd.h>
@@ -16,6 +17,9 @@ enum { PIECE = 4096, TOGETHER = 1 << 20 };
 static struct bytes waiting;
 static size_t taken;
 static struct keys coming;
+
+/* Whether a stop was asked for since the keys are watched. */
+static atomic_bool is_asked;
 
 /* The thread reads while `is_reading`, until there is a byte in the pipe. All of this is under the lock. */
 static struct watch {
@@ -130,8 +134,10 @@ static bool keep_piece(const struct teco_stopper *asks)
             waiting.at[waiting.count++] = piece[i];
     }
     bool has_ended = n == 0 || (n < 0 && errno != EAGAIN && errno != EINTR);
-    if (is_stop || has_ended)
+    if (is_stop || has_ended) {
+        atomic_store(&is_asked, true);
         (void)teco_stop(asks, 1);
+    }
     return !has_ended;
 }
 
@@ -217,6 +223,7 @@ static bool make_watch(void)
 
 void tty_watch(const struct teco_stopper *asks)
 {
+    atomic_store(&is_asked, false);
     if (!make_watch())
         return;
     (void)pthread_mutex_lock(&watch.lock);
@@ -237,4 +244,9 @@ void tty_unwatch(void)
     bool is_taken = is_told && read(watch.read_end, &byte, 1) == 1;
     (void)is_taken;
     (void)pthread_mutex_unlock(&watch.lock);
+}
+
+bool tty_is_broken_off(void)
+{
+    return atomic_load(&is_asked);
 }

@@ -67,6 +67,7 @@ static void on_end(int signal)
     int kept = errno;
     give_back();
     journal_leave();
+    file_drop_draft();
     (void)raise(signal);
     errno = kept;
 }

@@ -226,15 +226,25 @@ static bool would_lose(struct work *work)
     return true;
 }
 
+/* Writes the output, which Ctrl-C breaks off where a pipe is waited for. Tells in errno why it can't. */
+static enum fate write_file(struct work *work)
+{
+    (void)teco_stop(&work->asks, 0);
+    tty_watch(&work->asks);
+    errno = 0;
+    enum fate fate = file_write(work->output, &work->session);
+    int reason = errno;
+    tty_unwatch();
+    errno = fate == NO_MEMORY ? ENOMEM : reason;
+    return fate;
+}
+
 enum fate work_write(struct work *work, char *why, size_t size)
 {
-    enum fate fate = CHANGED_FILE;
-    errno = 0;
-    if (!would_lose(work))
-        fate = file_write(work->output, &work->session);
+    enum fate fate = would_lose(work) ? CHANGED_FILE : write_file(work);
+    int reason = errno;
     if (fate == EXIT)
         return EXIT;
-    int reason = fate == NO_MEMORY ? ENOMEM : errno;
     (void)work_undo(work, 1);
     journal_want(&work->journal, work_has_edits(work));
     if (fate == CHANGED_FILE)

@@ -79,7 +79,14 @@ enum fate file_read(const char *name, struct bytes *to, struct stat *about);
 
 /* Writes the output of a session to a file of this name, which has it whole or stays as it was. Devices and pipes get it after what
    they have. EXIT, NO_MEMORY, or NO_OUTPUT and the reason in errno. */
-enum fate file_write(const char *name, struct teco *session);
+enum fate file_write(const char *name, const struct teco *session);
+
+/* Reads what a file has that is open, and writes the output of a session to one. */
+enum fate file_take(int file, struct bytes *to);
+bool file_put(int file, const struct teco *session);
+
+/* Takes the draft of a file away that is being written. A signal's handler may call it. */
+void file_drop_draft(void);
 
 /* Whether two looks at a file saw the same one with the same bytes, by its number, size and time. */
 bool file_is_same(const struct stat *one, const struct stat *other);
@@ -250,6 +257,9 @@ void tty_resume(void);
    keys wait. */
 void tty_watch(const struct teco_stopper *asks);
 void tty_unwatch(void);
+
+/* Whether it has asked so since tty_watch. */
+bool tty_is_broken_off(void);
 
 /* How long bytes may be apart that come together. */
 extern const struct timespec TTY_GAP;
