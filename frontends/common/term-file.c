@@ -65,15 +65,40 @@ enum fate file_take(int file, struct bytes *to)
     return n == 0 ? GOES_ON : NO_INPUT;
 }
 
-enum fate file_read(const char *name, struct bytes *to, struct stat *about)
+/* Whether a file of this name could be made: its folder is there. */
+static bool has_folder(const char *name)
+{
+    struct stat about;
+    const char *slash = strrchr(name, '/');
+    char *folder = slash == NULL ? NULL : strndup(name, (size_t)(slash - name) + 1);
+    bool has = slash == NULL ? name[0] != '\0' : slash[1] != '\0' && folder != NULL && stat(folder, &about) == 0;
+    free(folder);
+    return has;
+}
+
+enum fate file_read(const char *name, struct bytes *to, struct stat *about, bool *is_new)
 {
     int file = open(name, O_RDONLY | O_CLOEXEC);
+    *is_new = file < 0 && errno == ENOENT && has_folder(name);
     if (file < 0)
-        return NO_INPUT;
+        return *is_new ? GOES_ON : NO_INPUT;
     enum fate fate = fstat(file, about) == 0 ? file_take(file, to) : NO_INPUT;
     if (close(file) != 0 && fate == GOES_ON)
         fate = NO_INPUT;
     return fate;
+}
+
+/* A link under /dev or /proc leads to an open file, which keeps what it has. */
+static bool is_open_file(const char *name)
+{
+    return strncmp(name, "/dev/", 5) == 0 || strncmp(name, "/proc/", 6) == 0;
+}
+
+bool file_is_replaced(const char *name, struct stat *there)
+{
+    struct stat about;
+    bool is_kept = lstat(name, &about) == 0 && S_ISLNK(about.st_mode) && is_open_file(name);
+    return !is_kept && stat(name, there) == 0 && S_ISREG(there->st_mode);
 }
 
 bool file_is_same(const struct stat *one, const struct stat *other)
@@ -217,7 +242,7 @@ static enum fate write_over(const char *path, const struct teco *session)
     return replace(path, &old, session);
 }
 
-/* A link under /dev or /proc leads to an open file, and one that leads nowhere yet makes a file there: the output goes through both. */
+/* The output goes through a link that leads to an open file, and through one that leads nowhere yet, which makes a file there. */
 enum fate file_write(const char *name, const struct teco *session)
 {
     struct stat about;
@@ -226,12 +251,11 @@ enum fate file_write(const char *name, const struct teco *session)
         return errno == ENOENT ? replace(name, NULL, session) : NO_OUTPUT;
     if (!S_ISLNK(about.st_mode))
         return write_over(name, session);
-    bool is_open_file = strncmp(name, "/dev/", 5) == 0 || strncmp(name, "/proc/", 6) == 0;
-    char *path = is_open_file ? NULL : realpath(name, NULL);
+    char *path = is_open_file(name) ? NULL : realpath(name, NULL);
     enum fate fate = NO_OUTPUT;
     if (path != NULL)
         fate = write_over(path, session);
-    else if (is_open_file || errno == ENOENT)
+    else if (is_open_file(name) || errno == ENOENT)
         fate = append(name, session) ? EXIT : NO_OUTPUT;
     free(path);
     return fate;

@@ -19,14 +19,15 @@ static bool read_number(const char *text, uint64_t least, uint64_t most, uint64_
 static bool read_line(const struct program *program, int count, char **words, struct options *options)
 {
     static const struct option KNOWN[] = {{"limit", required_argument, NULL, 'l'}, {"output", required_argument, NULL, 'o'},
-        {"undo", required_argument, NULL, 'u'}, {"help", no_argument, NULL, 'h'}, {"version", no_argument, NULL, 'V'},
-        {"steps", no_argument, NULL, 's'}, {0}};
+        {"in-place", no_argument, NULL, 'i'}, {"undo", required_argument, NULL, 'u'}, {"help", no_argument, NULL, 'h'},
+        {"version", no_argument, NULL, 'V'}, {"steps", no_argument, NULL, 's'}, {0}};
     bool is_good = true;
     int option;
-    while (is_good && (option = getopt_long(count, words, "hV", KNOWN, NULL)) != -1) {
+    while (is_good && (option = getopt_long(count, words, "o:ihV", KNOWN, NULL)) != -1) {
         switch (option) {
         case 'l': is_good = read_number(optarg, 0, MOST_STEPS, &options->limit); break;
         case 'o': options->output = optarg; break;
+        case 'i': options->in_place = true; break;
         case 'u': is_good = read_number(optarg, 1, TECO_DEPTH_LIMIT, &options->depth); break;
         case 's': options->steps = is_good = program->has_steps; break;
         case 'h': options->help = true; break;
@@ -35,6 +36,9 @@ static bool read_line(const struct program *program, int count, char **words, st
         }
     }
     options->input = optind < count ? words[optind] : NULL;
+    is_good = is_good && !(options->in_place && options->output != NULL);
+    if (options->in_place)
+        options->output = options->input;
     return is_good && (options->help || options->version || optind + 1 == count);
 }
 

@@ -19,7 +19,7 @@ enum fate work_open(struct work *work, const struct options *options)
 {
     *work = (struct work){.options = options, .journal = {.limit = options->limit}};
     struct bytes input = {0};
-    enum fate fate = file_read(options->input, &input, &work->read);
+    enum fate fate = file_read(options->input, &input, &work->known, &work->is_new);
     if (fate == GOES_ON) {
         work->size = input.count;
         fate = open_over(work, &input);
@@ -27,14 +27,14 @@ enum fate work_open(struct work *work, const struct options *options)
     bytes_free(&input);
     if (fate != GOES_ON)
         return fate;
-    work->warned = work->read;
     const char *output = options->output != NULL ? options->output : options->input;
+    const char *suffix = options->output != NULL || work->is_new ? "" : ".out";
     size_t size = strlen(output) + sizeof ".out";
     work->room = malloc(ROOM);
     work->output = malloc(size);
     if (work->room == NULL || work->output == NULL)
         return NO_MEMORY;
-    (void)snprintf(work->output, size, "%s%s", output, options->output != NULL ? "" : ".out");
+    (void)snprintf(work->output, size, "%s%s", output, suffix);
     journal_watch(&work->journal, options->input);
     return GOES_ON;
 }
@@ -212,18 +212,36 @@ bool work_has_edits(struct work *work)
     return !is_of_input(work, teco_text, 0, &at);
 }
 
-/* Whether the output goes over the file that was read, and that has changed since then, and since a person was told so. */
+static bool is_input(const struct work *work)
+{
+    char *input = realpath(work->options->input, NULL), *output = realpath(work->output, NULL);
+    bool is = input != NULL && output != NULL && strcmp(input, output) == 0;
+    free(input);
+    free(output);
+    return is;
+}
+
+/* Whether the output goes over a file that this session has neither read nor written, as it is now, and of which a person wasn't told. */
 static bool would_lose(struct work *work)
 {
     struct stat there;
-    char *input = realpath(work->options->input, NULL), *output = realpath(work->output, NULL);
-    bool is_input = input != NULL && output != NULL && strcmp(input, output) == 0;
-    free(input);
-    free(output);
-    if (!is_input || stat(work->output, &there) != 0 || !S_ISREG(there.st_mode) || file_is_same(&there, &work->warned))
+    if (!file_is_replaced(work->output, &there) || file_is_same(&there, &work->known))
         return false;
-    work->warned = there;
+    work->known = there;
     return true;
+}
+
+static void note_written(struct work *work)
+{
+    size_t n = 0;
+    (void)teco_output(&work->session, 0, work->room, 0, &n);
+    (void)snprintf(work->wrote, sizeof work->wrote, "wrote %s, %zu byte%s", work->output, n, n == 1 ? "" : "s");
+}
+
+void work_tell(const struct work *work)
+{
+    if (work->wrote[0] != '\0')
+        (void)fprintf(stderr, "%s\n", work->wrote);
 }
 
 /* Writes the output, which Ctrl-C breaks off where a pipe is waited for. Tells in errno why it can't. */
@@ -235,6 +253,8 @@ static enum fate write_file(struct work *work)
     enum fate fate = file_write(work->output, &work->session);
     int reason = errno;
     tty_unwatch();
+    if (fate == EXIT)
+        note_written(work);
     errno = fate == NO_MEMORY ? ENOMEM : reason;
     return fate;
 }
@@ -248,7 +268,8 @@ enum fate work_write(struct work *work, char *why, size_t size)
     (void)work_undo(work, 1);
     journal_want(&work->journal, work_has_edits(work));
     if (fate == CHANGED_FILE)
-        (void)snprintf(why, size, "%s has changed since it was read: EX once more replaces it.", work->output);
+        (void)snprintf(why, size, "%s %s: EX once more, or Return, replaces it.", work->output,
+            is_input(work) && !work->is_new ? "has changed since it was read" : "is there already");
     else
         (void)snprintf(why, size, "cannot write %s: %s.", work->output, reason != 0 ? strerror(reason) : "the system gives no reason");
     return fate == CHANGED_FILE ? CHANGED_FILE : GOES_ON;

@@ -54,9 +54,9 @@ void bytes_free(struct bytes *bytes);
 /* THE LINE OF THE PROGRAM */
 
 struct options {
-    const char *input, *output; /* the output's name may be none: INPUT.out then */
+    const char *input, *output; /* the output's name may be none: INPUT.out then, or INPUT where that isn't there yet */
     uint64_t limit, depth;
-    bool steps, help, version;
+    bool in_place, steps, help, version;
 };
 
 /* What differs between the programs. */
@@ -74,8 +74,8 @@ int conclude(const struct program *program, const char *input, enum fate fate);
 /* FILES */
 
 /* Reads a file whole, at most TECO_INPUT_LIMIT bytes of it, and what the system tells of it: GOES_ON, NO_INPUT, LARGE_INPUT or
-   NO_MEMORY. */
-enum fate file_read(const char *name, struct bytes *to, struct stat *about);
+   NO_MEMORY. A file that isn't there, in a folder that is, has no bytes. */
+enum fate file_read(const char *name, struct bytes *to, struct stat *about, bool *is_new);
 
 /* Writes the output of a session to a file of this name, which has it whole or stays as it was. Devices and pipes get it after what
    they have. EXIT, NO_MEMORY, or NO_OUTPUT and the reason in errno. */
@@ -87,6 +87,9 @@ bool file_put(int file, const struct teco *session);
 
 /* Takes the draft of a file away that is being written. A signal's handler may call it. */
 void file_drop_draft(void);
+
+/* Whether writing to this name replaces a file that is there. Tells what the system tells of that. */
+bool file_is_replaced(const char *name, struct stat *there);
 
 /* Whether two looks at a file saw the same one with the same bytes, by its number, size and time. */
 bool file_is_same(const struct stat *one, const struct stat *other);
@@ -146,8 +149,8 @@ void past_free(void);
 /* The most bytes that a string may type: memory that is not written to costs none. */
 enum { ROOM = 64 << 20 };
 
-/* The most calls of macros that are open at once. */
-enum { CALLS = 32 };
+/* The most calls of macros that are open at once, and room for a sentence that tells what was written. */
+enum { CALLS = 32, WROTE = 300 };
 
 /* How a string ended that was run. */
 struct told {
@@ -164,9 +167,11 @@ struct work {
     const struct options *options;
     struct teco session;
     struct teco_stopper asked, asks; /* a run is asked to stop, and the keys ask it */
-    size_t size;              /* of INPUT */
-    struct stat read, warned; /* the file as it was read, and as it was when a person was told that it had changed */
-    char *output;             /* the name of the output */
+    size_t size;              /* of INPUT, */
+    bool is_new;              /* which wasn't there */
+    struct stat known;        /* the file that may be replaced, as it was read or written here, or as a person was told of it */
+    char *output;             /* the name of the output, */
+    char wrote[WROTE];        /* and what was written, or nothing */
     struct journal journal;
     size_t verified;          /* so many bytes of the output are those of INPUT */
     uint8_t *room;            /* for what a string types */
@@ -197,8 +202,11 @@ bool work_steps(const struct work *work, uint64_t *steps);
 bool work_has_edits(struct work *work);
 
 /* Writes the output after an exit. EXIT, or else the session is where it was before the string that exits, and `why` says what the person
-   has to know: GOES_ON where another name is wanted, CHANGED_FILE where a second exit writes it. */
+   has to know: GOES_ON where another name is wanted, CHANGED_FILE where a second exit replaces a file that isn't this session's. */
 enum fate work_write(struct work *work, char *why, size_t size);
+
+/* Tells on standard error what was written, once the terminal is given back. */
+void work_tell(const struct work *work);
 
 /* Goes on to the exit that could not be written, over another name, or the same where n is 0. The same. */
 enum fate work_write_to(struct work *work, const uint8_t *name, size_t n, char *why, size_t size);

@@ -118,8 +118,9 @@ static void draw_title(const struct screen *screen)
     const struct view *view = screen_view(screen);
     (void)attr_set(A_REVERSE, 0, NULL);
     (void)mvhline(0, 0, ' ', COLS);
-    (void)snprintf(text, sizeof text, " %s%s  page %zu  read %zu of %zu, written %zu%s", screen->work.options->input,
-        screen->work.journal.is_wanted ? " *" : "", page_at(&screen->work, view->place), view->place, screen->work.size, view->output,
+    (void)snprintf(text, sizeof text, " %s%s > %s  page %zu  read %zu of %zu, written %zu%s", screen->work.options->input,
+        screen->work.journal.is_wanted ? " *" : "", screen->work.output, page_at(&screen->work, view->place), view->place,
+        screen->work.size, view->output,
         screen->is_stepping ? "  STEPS" : screen->is_previewed ? "  PREVIEW" : "");
     (void)mvaddnstr(0, 0, text, COLS);
     (void)attr_set(0, 0, NULL);

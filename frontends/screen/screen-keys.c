@@ -111,14 +111,14 @@ static bool begin_key(struct screen *screen)
 {
     bool was_helped = screen->is_helped;
     screen->message[0] = '\0';
-    screen->is_helped = screen->has_asked = false;
+    screen->is_helped = screen->has_asked = screen->has_warned = false;
     return was_helped;
 }
 
 static enum fate press(void *to, uint8_t key)
 {
     struct screen *screen = to;
-    bool has_asked = screen->has_asked;
+    bool has_asked = screen->has_asked, has_warned = screen->has_warned;
     if (begin_key(screen))
         return GOES_ON;
     if (screen->is_stepping) {
@@ -131,6 +131,8 @@ static enum fate press(void *to, uint8_t key)
     }
     if (screen->line.count == 0 && !screen->is_naming && key == CONTROL('D'))
         return leave(screen, has_asked);
+    if (screen->line.count == 0 && has_warned && key == RETURN)
+        return screen_name(screen);
     return edit(screen, key);
 }
 

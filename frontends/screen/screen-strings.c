@@ -92,6 +92,7 @@ static enum fate conclude_writing(struct screen *screen, enum fate fate)
     if (fate == EXIT || fate == NO_MEMORY)
         return fate;
     screen->is_naming = fate == GOES_ON;
+    screen->has_warned = fate == CHANGED_FILE;
     end_change(screen);
     return GOES_ON;
 }

@@ -177,7 +177,7 @@ struct screen {
     bool is_previewed;       /* what is shown is a preview, and not the session */
     bool is_stepping;        /* keys go through the steps of the last string, */
     uint64_t step, steps;    /* and are at this one of so many */
-    bool is_quoted, is_naming, has_asked, is_helped;
+    bool is_quoted, is_naming, has_asked, has_warned, is_helped;
     bool is_other;           /* the string is another one than was tried last, */
     bool is_tentative;       /* and ends with an ESC that may begin a sequence */
     size_t top;              /* where the window begins */

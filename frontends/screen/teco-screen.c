@@ -1,28 +1,30 @@
 /*
  * teco-screen - TECO on a full screen, where a command string shows what it does while it is typed
  *
- *   teco-screen [--limit N] [--output FILE] [--undo N] INPUT
+ *   teco-screen [-i | -o FILE] [--limit N] [--undo N] INPUT
  *
  * docs/TERMINAL.md tells of the rule and the keys. A string is tried in a copy of the process; nothing here changes the text of the session
  * but through teco_run, teco_undo, teco_redo and teco_rewind.
  */
 #include "screen.h"
 #include <locale.h>
+#include <stdio.h>
 
 static const struct program PROGRAM = {
     .name = "teco-screen",
-    .usage = "usage: teco-screen [--limit N] [--output FILE] [--undo N] INPUT\n",
+    .usage = "usage: teco-screen [-i | -o FILE] [--limit N] [--undo N] INPUT\n",
     /* The completions of the shells are made of these lines, by tools/completions. */
     .help = "TECO on a full screen: a command string shows what it does while it is typed\n"
             "\n"
             "Usage: teco-screen [OPTIONS] <INPUT>\n"
             "\n"
             "Arguments:\n"
-            "  <INPUT>  The file to edit; it stays as it is, unless --output names it too\n"
+            "  <INPUT>  The file to edit; it stays as it is, unless it is the output too. One that is not there is made\n"
             "\n"
             "Options:\n"
+            "  -o, --output <FILE>  Where the output goes after an exit; INPUT.out without it\n"
+            "  -i, --in-place       The output goes over INPUT\n"
             "      --limit <N>      The most steps that each command string may take, at most 1000000000000; 1000000 without it\n"
-            "      --output <FILE>  Where the output goes after an exit; INPUT.out without it\n"
             "      --undo <N>       The most command strings kept to be undone, at most 100000; all without it\n"
             "  -h, --help           Print help\n"
             "  -V, --version        Print version\n"
@@ -39,6 +41,8 @@ static enum fate edit_on_screen(struct screen *screen)
         screen->still.told = work_do(&screen->work, (const uint8_t *)"Y", 1);
     else
         screen->still.told.at = TECO_NOWHERE;
+    if (screen->work.is_new)
+        (void)snprintf(screen->message, sizeof screen->message, "a new file  (F1 for help)");
     screen_look(screen);
     return screen_converse(screen);
 }
@@ -69,6 +73,7 @@ int main(int count, char **words)
     if (fate == GOES_ON)
         fate = preview_open(&screen.preview, &screen.work) ? edit_at_terminal(&screen) : NO_MEMORY;
     preview_close(&screen.preview);
+    work_tell(&screen.work);
     work_close(&screen.work);
     bytes_free(&screen.line);
     bytes_free(&screen.pending);

@@ -46,6 +46,7 @@ struct editor {
     struct told told;  /* how it ended, */
     bool has_failed;   /* and if it ended by a code, and no key came after that */
     bool has_asked;    /* whether to leave with edits, and no key came after that */
+    bool has_warned;   /* that a file is there which an exit would replace, and no key came after that */
     bool is_quoted;    /* the next key is a byte as it is */
     bool is_naming;    /* what is typed is the name of an output, since the one before can't be written */
 };

@@ -113,14 +113,23 @@ static enum fate edit(struct editor *editor, uint8_t key)
     }
 }
 
+/* Goes on to the exit that would replace a file. */
+static enum fate replace(struct editor *editor)
+{
+    enum fate fate = begin_string(editor);
+    return fate == GOES_ON ? name_output(editor, NULL, 0) : fate;
+}
+
 /* A key. Some mean something else where nothing is typed yet. */
 static enum fate press(struct editor *editor, uint8_t key)
 {
-    bool has_failed = editor->has_failed, has_asked = editor->has_asked;
+    bool has_failed = editor->has_failed, has_asked = editor->has_asked, has_warned = editor->has_warned;
     bool is_first = editor->line.text.count == 0 && !editor->is_quoted && !editor->is_naming;
-    editor->has_failed = editor->has_asked = false;
+    editor->has_failed = editor->has_asked = editor->has_warned = false;
     if (is_first && key == CONTROL('D'))
         return leave(editor, has_asked);
+    if (is_first && key == RETURN && has_warned)
+        return replace(editor);
     if (is_first && key == '?' && has_failed) {
         editor->has_failed = true;
         editor->line = (struct line){.text = editor->line.text};
@@ -152,7 +161,7 @@ static enum fate refuse(void *to, const uint8_t *bytes, size_t n)
 static void begin_paste(void *to)
 {
     struct editor *editor = to;
-    editor->has_failed = editor->has_asked = editor->is_quoted = false;
+    editor->has_failed = editor->has_asked = editor->has_warned = editor->is_quoted = false;
 }
 
 static const struct taker TAKER = {.press = press_key, .sequence = refuse, .paste = take_byte, .begin_paste = begin_paste};

@@ -182,6 +182,7 @@ class Terminal:
     def __init__(self, program, rows=24, columns=80, erase=b"\x7f", screen=Screen, environment=None):
         self.screen = screen(rows, columns)
         self.seen = b""
+        self.head = ""
         self.reports = b""
         self.master, slave = pty.openpty()
         self.resize(rows, columns)
@@ -238,7 +239,8 @@ class Terminal:
         return self
 
     def state(self):
-        return self.screen.text()
+        """The screen, without what the program said before its first prompt, as far as that still is the first that is on it."""
+        return self.screen.text().removeprefix(self.head)
 
     def drains(self):
         """Takes what comes until nothing more does. What comes for ever is not waited for."""
