@@ -140,12 +140,23 @@ static bool write_all(int file, const uint8_t *bytes, size_t n)
     return true;
 }
 
-bool file_put(int file, const struct teco *session)
+/* Looks at a piece of what is written, from a place on, and tells how much is left there. */
+static bool look_at(const struct content *content, size_t from, uint8_t *piece, size_t *left)
+{
+    if (content->session != NULL)
+        return teco_output(content->session, from, piece, PIECE, left) == 0;
+    *left = content->bytes->count - from;
+    if (*left > 0)
+        memcpy(piece, content->bytes->at + from, *left < PIECE ? *left : PIECE);
+    return true;
+}
+
+bool file_put(int file, const struct content *content)
 {
     static uint8_t piece[PIECE];
     size_t from = 0, left;
     do {
-        if (teco_output(session, from, piece, sizeof piece, &left) != 0)
+        if (!look_at(content, from, piece, &left))
             return false;
         size_t n = left < sizeof piece ? left : sizeof piece;
         if (!write_all(file, piece, n))
@@ -156,7 +167,7 @@ bool file_put(int file, const struct teco *session)
 }
 
 /* Where nobody reads a pipe yet, its reader is waited for. */
-static bool append(const char *name, const struct teco *session)
+static bool append(const char *name, const struct content *content)
 {
     struct stat about;
     bool is_pipe = stat(name, &about) == 0 && S_ISFIFO(about.st_mode);
@@ -166,7 +177,7 @@ static bool append(const char *name, const struct teco *session)
     while (file < 0 && is_awaited(-1, is_pipe ? ENXIO : EINTR));
     if (file < 0)
         return false;
-    return end_file(file, file_put(file, session));
+    return end_file(file, file_put(file, content));
 }
 
 /* The group, the owner and the permissions of the file whose place it takes, as far as the system lets us. */
@@ -200,9 +211,9 @@ static int make_draft(const char *name, char *draft, size_t size, mode_t mode)
 }
 
 /* Fills the draft, waits until it outlasts a crash, and gives it the file's name. Where that fails, it is removed. */
-static bool fill_draft(int file, const char *draft, const char *name, const struct stat *old, const struct teco *session)
+static bool fill_draft(int file, const char *draft, const char *name, const struct stat *old, const struct content *content)
 {
-    bool written = file_put(file, session);
+    bool written = file_put(file, content);
     if (written && old != NULL)
         make_like(file, old);
     written = end_file(file, written && fsync(file) == 0);
@@ -215,48 +226,48 @@ static bool fill_draft(int file, const char *draft, const char *name, const stru
 }
 
 /* Replaces the file that `old` tells of, or makes a new one where that is null. */
-static enum fate replace(const char *name, const struct stat *old, const struct teco *session)
+static enum fate replace(const char *name, const struct stat *old, const struct content *content)
 {
     size_t size = strlen(name) + sizeof ".teco--" + 20;
     char *draft = malloc(size);
     if (draft == NULL)
         return NO_MEMORY;
     int file = make_draft(name, draft, size, old == NULL ? 0666 : 0600);
-    bool written = file >= 0 && fill_draft(file, draft, name, old, session);
+    bool written = file >= 0 && fill_draft(file, draft, name, old, content);
     open_draft = NULL;
     free(draft);
     return written ? EXIT : NO_OUTPUT;
 }
 
 /* Writes to what is at the end of a path without links: a file that may be written is replaced, and all else gets the output. */
-static enum fate write_over(const char *path, const struct teco *session)
+static enum fate write_over(const char *path, const struct content *content)
 {
     struct stat old;
     if (stat(path, &old) != 0)
         return NO_OUTPUT;
     if (!S_ISREG(old.st_mode))
-        return append(path, session) ? EXIT : NO_OUTPUT;
+        return append(path, content) ? EXIT : NO_OUTPUT;
     int file = open(path, O_WRONLY | O_APPEND | O_CLOEXEC);
     if (file < 0 || close(file) != 0)
         return NO_OUTPUT;
-    return replace(path, &old, session);
+    return replace(path, &old, content);
 }
 
 /* The output goes through a link that leads to an open file, and through one that leads nowhere yet, which makes a file there. */
-enum fate file_write(const char *name, const struct teco *session)
+enum fate file_write(const char *name, const struct content *content)
 {
     struct stat about;
     bool is_there = lstat(name, &about) == 0;
     if (!is_there)
-        return errno == ENOENT ? replace(name, NULL, session) : NO_OUTPUT;
+        return errno == ENOENT ? replace(name, NULL, content) : NO_OUTPUT;
     if (!S_ISLNK(about.st_mode))
-        return write_over(name, session);
+        return write_over(name, content);
     char *path = is_open_file(name) ? NULL : realpath(name, NULL);
     enum fate fate = NO_OUTPUT;
     if (path != NULL)
-        fate = write_over(path, session);
+        fate = write_over(path, content);
     else if (is_open_file(name) || errno == ENOENT)
-        fate = append(name, session) ? EXIT : NO_OUTPUT;
+        fate = append(name, content) ? EXIT : NO_OUTPUT;
     free(path);
     return fate;
 }

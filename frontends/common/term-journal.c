@@ -9,11 +9,12 @@
 #include <unistd.h>
 
 enum { PIECE = 4096 };
-static const char SUFFIX[] = ".teco-strings";
+static const char STRINGS[] = ".teco-strings", INPUT[] = ".teco-input";
 
-/* What the handlers need, which no call changes while a signal may come. */
+/* What the handlers need, which no call changes while a signal may come: also the bytes of INPUT, where it has others or isn't there. */
 static const struct journal *watched;
-static char *name;
+static const struct bytes *original;
+static char *name, *original_name;
 
 bool journal_reserve(struct journal *journal, size_t n)
 {
@@ -78,8 +79,10 @@ void journal_want(struct journal *journal, bool is_wanted)
 void journal_free(struct journal *journal)
 {
     watched = NULL;
+    original = NULL;
     free(name);
-    name = NULL;
+    free(original_name);
+    name = original_name = NULL;
     bytes_free(&journal->texts);
     free(journal->strings);
     *journal = (struct journal){0};
@@ -92,13 +95,30 @@ const uint8_t *journal_text(const struct journal *journal, size_t i, size_t *n)
     return journal->texts.at + from;
 }
 
+/* The name of INPUT with a suffix, and room for a digit. */
+static char *name_with(const char *input, const char *suffix)
+{
+    size_t size = strlen(input) + strlen(suffix) + 2;
+    char *with = malloc(size);
+    if (with != NULL)
+        (void)snprintf(with, size, "%s%s", input, suffix);
+    return with;
+}
+
 void journal_watch(const struct journal *journal, const char *input)
 {
-    size_t size = strlen(input) + sizeof SUFFIX + 2;
-    name = malloc(size);
-    if (name != NULL)
-        (void)snprintf(name, size, "%s%s", input, SUFFIX);
+    name = name_with(input, STRINGS);
+    original_name = name_with(input, INPUT);
     watched = journal;
+}
+
+void journal_keep(const struct bytes *input)
+{
+    sigset_t usual;
+    bool is_blocked = tty_block(&usual);
+    original = input;
+    if (is_blocked)
+        tty_unblock(&usual);
 }
 
 /* From here on all may be called by a handler: no memory is asked for, and nothing is called but open, write and close. */
@@ -110,14 +130,20 @@ struct pen {
     char piece[PIECE];
 };
 
+static void write_all(int file, const void *bytes, size_t n)
+{
+    for (const char *from = bytes; n > 0;) {
+        ssize_t written = write(file, from, n);
+        if (written <= 0)
+            return;
+        from += written;
+        n -= (size_t)written;
+    }
+}
+
 static void flush(struct pen *pen)
 {
-    for (size_t at = 0; at < pen->count;) {
-        ssize_t written = write(pen->file, pen->piece + at, pen->count - at);
-        if (written <= 0)
-            break;
-        at += (size_t)written;
-    }
+    write_all(pen->file, pen->piece, pen->count);
     pen->count = 0;
 }
 
@@ -199,7 +225,7 @@ static bool has_failed(const struct journal *journal)
 }
 
 /* A new file of the name, or of the name and a digit where there are such files. */
-static int make_file(void)
+static int make_file(char *name)
 {
     size_t end = strlen(name);
     int file = open(name, O_WRONLY | O_CREAT | O_EXCL | O_CLOEXEC, 0600);
@@ -211,6 +237,33 @@ static int make_file(void)
     return file;
 }
 
+/* Leaves what INPUT had. What its name has behind that of INPUT, or nothing where it needs none. */
+static const char *leave_input(void)
+{
+    if (original == NULL || original_name == NULL)
+        return "";
+    size_t end = strlen(original_name) + 1 - sizeof INPUT;
+    int file = make_file(original_name);
+    if (file < 0)
+        return "";
+    write_all(file, original->at, original->count);
+    (void)close(file);
+    return original_name + end;
+}
+
+/* The first line, which tells how the text is made again. */
+static void put_line(struct pen *pen, const struct journal *journal, const char *input)
+{
+    bool are_typed = has_failed(journal);
+    put(pen, "!! The strings of a session that was ended. To make its text again, in INPUT.out: ");
+    put(pen, are_typed ? "tecol THIS | teco " : "teco ");
+    put(pen, *input != '\0' ? "-o INPUT.out --limit " : "--limit ");
+    put_number(pen, limit_of(journal));
+    put(pen, are_typed ? " INPUT" : " -f THIS INPUT");
+    put(pen, input);
+    put(pen, "\n");
+}
+
 void journal_leave(void)
 {
     static struct pen pen;
@@ -218,14 +271,10 @@ void journal_leave(void)
     watched = NULL;
     if (journal == NULL || name == NULL || !journal->is_wanted)
         return;
-    pen.file = make_file();
+    pen.file = make_file(name);
     if (pen.file < 0)
         return;
-    bool are_typed = has_failed(journal);
-    put(&pen, "!! The strings of a session that was ended. To make its text again, in INPUT.out: ");
-    put(&pen, are_typed ? "tecol THIS | teco --limit " : "teco --limit ");
-    put_number(&pen, limit_of(journal));
-    put(&pen, are_typed ? " INPUT\n" : " -f THIS INPUT\n");
+    put_line(&pen, journal, leave_input());
     for (size_t i = 0; i < journal->cursor; i++)
         put_string(&pen, journal, i);
     put(&pen, "EX$$\n");

@@ -36,6 +36,8 @@ enum fate work_open(struct work *work, const struct options *options)
         return NO_MEMORY;
     (void)snprintf(work->output, size, "%s%s", output, suffix);
     journal_watch(&work->journal, options->input);
+    if (work->is_new)
+        journal_keep(&work->input);
     return GOES_ON;
 }
 
@@ -46,6 +48,8 @@ void work_close(struct work *work)
     teco_close(&work->session);
     teco_stopper_close(&work->asked);
     teco_stopper_close(&work->asks);
+    bytes_free(&work->input);
+    bytes_free(&work->saved);
     free(work->output);
     free(work->room);
 }
@@ -174,15 +178,25 @@ bool work_steps(const struct work *work, uint64_t *steps)
 
 typedef uint8_t look(const struct teco *session, size_t from, uint8_t *room, size_t size, size_t *length);
 
-/* Whether the bytes that a look gives from a place on are those of INPUT from `at` on, which goes behind them. */
-static bool is_of_input(struct work *work, look *call, size_t from, size_t *at)
+/* What was saved last, or else INPUT, from a place on. */
+static bool look_at_base(const struct work *work, size_t from, uint8_t *room, size_t size, size_t *left)
+{
+    if (!work->is_saved)
+        return teco_input(&work->session, from, room, size, left) == 0;
+    *left = from < work->saved.count ? work->saved.count - from : 0;
+    if (*left > 0)
+        memcpy(room, work->saved.at + from, *left < size ? *left : size);
+    return true;
+}
+
+/* Whether the bytes that a look gives from a place on are those of the base from `at` on, which goes behind them. */
+static bool is_of_base(struct work *work, look *call, size_t from, size_t *at)
 {
     enum { PIECE = 1 << 16 };
     static uint8_t piece[PIECE], wanted[PIECE];
     size_t length, left;
     do {
-        if (call(&work->session, from, piece, PIECE, &length) != 0 || teco_input(&work->session, *at, wanted, PIECE, &left) != 0
-            || length > left)
+        if (call(&work->session, from, piece, PIECE, &length) != 0 || !look_at_base(work, *at, wanted, PIECE, &left) || length > left)
             return false;
         size_t n = length < PIECE ? length : PIECE;
         if (memcmp(piece, wanted, n) != 0)
@@ -194,25 +208,31 @@ static bool is_of_input(struct work *work, look *call, size_t from, size_t *at)
 }
 
 /* EX writes the output, the buffer with its form feed, and what of INPUT isn't read. Of the output no more is compared than what came
-   since it was compared before: a string adds to it, and an undo takes away. */
+   since it was compared before: a string adds to it, and an undo takes away. Of what isn't read no more is compared than was read when
+   that was saved. */
 bool work_has_edits(struct work *work)
 {
+    static const uint8_t FORM_FEED = 12;
     size_t output, text, place, at;
     if (teco_output(&work->session, 0, work->room, 0, &output) != 0 || teco_length(&work->session, &text) != 0
         || teco_place(&work->session, &place) != 0)
         return true;
     if (output < work->verified)
         work->verified = output;
-    if (output + text + (teco_form_feed(&work->session) == 1) != place)
+    bool has_feed = teco_form_feed(&work->session) == 1;
+    if (output + text + has_feed + work->size - place != (work->is_saved ? work->saved.count : work->size))
         return true;
     at = work->verified;
-    if (!is_of_input(work, teco_output, work->verified, &at))
+    if (!is_of_base(work, teco_output, work->verified, &at))
         return true;
     work->verified = at;
-    return !is_of_input(work, teco_text, 0, &at);
+    if (!is_of_base(work, teco_text, 0, &at) || (work->is_saved && has_feed && work->saved.at[at] != FORM_FEED))
+        return true;
+    at += has_feed;
+    return work->is_saved && place < work->saved_place && !is_of_base(work, teco_input, place, &at);
 }
 
-static bool is_input(const struct work *work)
+bool work_is_over_input(const struct work *work)
 {
     char *input = realpath(work->options->input, NULL), *output = realpath(work->output, NULL);
     bool is = input != NULL && output != NULL && strcmp(input, output) == 0;
@@ -231,10 +251,12 @@ static bool would_lose(struct work *work)
     return true;
 }
 
-static void note_written(struct work *work)
+static void note_written(struct work *work, const struct content *content)
 {
-    size_t n = 0;
-    (void)teco_output(&work->session, 0, work->room, 0, &n);
+    size_t n = content->session == NULL ? content->bytes->count : 0;
+    if (content->session != NULL)
+        (void)teco_output(content->session, 0, work->room, 0, &n);
+    (void)file_is_replaced(work->output, &work->known);
     (void)snprintf(work->wrote, sizeof work->wrote, "wrote %s, %zu byte%s", work->output, n, n == 1 ? "" : "s");
 }
 
@@ -245,33 +267,39 @@ void work_tell(const struct work *work)
 }
 
 /* Writes the output, which Ctrl-C breaks off where a pipe is waited for. Tells in errno why it can't. */
-static enum fate write_file(struct work *work)
+static enum fate write_file(struct work *work, const struct content *content)
 {
     (void)teco_stop(&work->asks, 0);
     tty_watch(&work->asks);
     errno = 0;
-    enum fate fate = file_write(work->output, &work->session);
+    enum fate fate = file_write(work->output, content);
     int reason = errno;
     tty_unwatch();
     if (fate == EXIT)
-        note_written(work);
+        note_written(work, content);
     errno = fate == NO_MEMORY ? ENOMEM : reason;
+    return fate;
+}
+
+enum fate work_write_content(struct work *work, const struct content *content, const char *again, char *why, size_t size)
+{
+    enum fate fate = would_lose(work) ? CHANGED_FILE : write_file(work, content);
+    if (fate == CHANGED_FILE)
+        (void)snprintf(why, size, "%s %s: %s replaces it.", work->output,
+            work_is_over_input(work) && !work->is_new ? "has changed since it was read" : "is there already", again);
+    else if (fate != EXIT)
+        (void)snprintf(why, size, "cannot write %s: %s.", work->output, errno != 0 ? strerror(errno) : "the system gives no reason");
     return fate;
 }
 
 enum fate work_write(struct work *work, char *why, size_t size)
 {
-    enum fate fate = would_lose(work) ? CHANGED_FILE : write_file(work);
-    int reason = errno;
+    struct content content = {.session = &work->session};
+    enum fate fate = work_write_content(work, &content, "EX once more, or Return,", why, size);
     if (fate == EXIT)
         return EXIT;
     (void)work_undo(work, 1);
     journal_want(&work->journal, work_has_edits(work));
-    if (fate == CHANGED_FILE)
-        (void)snprintf(why, size, "%s %s: EX once more, or Return, replaces it.", work->output,
-            is_input(work) && !work->is_new ? "has changed since it was read" : "is there already");
-    else
-        (void)snprintf(why, size, "cannot write %s: %s.", work->output, reason != 0 ? strerror(reason) : "the system gives no reason");
     return fate == CHANGED_FILE ? CHANGED_FILE : GOES_ON;
 }
 

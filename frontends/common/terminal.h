@@ -2,7 +2,7 @@
  * terminal.h - what the programs for a person at a terminal share: teco-term, and teco-screen of frontends/screen
  *
  * term-options.c reads the line of a program, and says how it ended. term-work.c does what a string asks, over a session; term-journal.c
- * keeps the strings, and leaves them in a file where the program is ended; term-past.c keeps all that were ever run, so that they come back
+ * keeps the strings, and leaves them in a file where the program is ended; term-save.c writes what an exit would, and goes on; term-past.c keeps all that were ever run, so that they come back
  * as text. term-codes.c has the sentences of the codes. term-file.c reads
  * INPUT and writes the output; term-tty.c sets the terminal, and term-read.c reads it, also while a string runs; term-keys.c tells keys,
  * sequences and pastes apart.
@@ -77,13 +77,19 @@ int conclude(const struct program *program, const char *input, enum fate fate);
    NO_MEMORY. A file that isn't there, in a folder that is, has no bytes. */
 enum fate file_read(const char *name, struct bytes *to, struct stat *about, bool *is_new);
 
-/* Writes the output of a session to a file of this name, which has it whole or stays as it was. Devices and pipes get it after what
-   they have. EXIT, NO_MEMORY, or NO_OUTPUT and the reason in errno. */
-enum fate file_write(const char *name, const struct teco *session);
+/* What is written to a file: the output of a session, or bytes where that is null. */
+struct content {
+    const struct teco *session;
+    const struct bytes *bytes;
+};
 
-/* Reads what a file has that is open, and writes the output of a session to one. */
+/* Writes to a file of this name, which has it whole or stays as it was. Devices and pipes get it after what they have. EXIT, NO_MEMORY, or
+   NO_OUTPUT and the reason in errno. */
+enum fate file_write(const char *name, const struct content *content);
+
+/* Reads what a file has that is open, or a pipe, and writes to one. */
 enum fate file_take(int file, struct bytes *to);
-bool file_put(int file, const struct teco *session);
+bool file_put(int file, const struct content *content);
 
 /* Takes the draft of a file away that is being written. A signal's handler may call it. */
 void file_drop_draft(void);
@@ -131,6 +137,10 @@ const uint8_t *journal_text(const struct journal *journal, size_t i, size_t *n);
 
 /* From now on journal_leave writes this one: beside INPUT, as a source that tecol reads. It may be called by a signal's handler. */
 void journal_watch(const struct journal *journal, const char *input);
+
+/* INPUT isn't there, or has other bytes now than these: they are left beside the strings. They stay until the journal is freed. */
+void journal_keep(const struct bytes *input);
+
 void journal_leave(void);
 
 /* THE STRINGS THAT CAN COME BACK AS TEXT */
@@ -173,7 +183,11 @@ struct work {
     char *output;             /* the name of the output, */
     char wrote[WROTE];        /* and what was written, or nothing */
     struct journal journal;
-    size_t verified;          /* so many bytes of the output are those of INPUT */
+    struct bytes input;       /* what INPUT had, once that is another, */
+    struct bytes saved;       /* and what was saved last, */
+    size_t saved_place;       /* when so much of INPUT had been read */
+    bool is_saved;
+    size_t verified;          /* so many bytes of the output are those of INPUT, or of what was saved */
     uint8_t *room;            /* for what a string types */
 };
 
@@ -198,12 +212,26 @@ uint8_t work_rewind(struct work *work, uint64_t steps);
 /* The steps of the last string that isn't undone. False where there is none. */
 bool work_steps(const struct work *work, uint64_t *steps);
 
-/* Whether EX would write something else than INPUT has. */
+/* Whether EX would write something else than INPUT has, or than was saved last. */
 bool work_has_edits(struct work *work);
+
+/* How the program ends that is left without an exit: well, where all was saved. */
+enum fate work_leave(struct work *work);
 
 /* Writes the output after an exit. EXIT, or else the session is where it was before the string that exits, and `why` says what the person
    has to know: GOES_ON where another name is wanted, CHANGED_FILE where a second exit replaces a file that isn't this session's. */
 enum fate work_write(struct work *work, char *why, size_t size);
+
+/* Writes what an exit would, and goes on: GOES_ON, CHANGED_FILE where a second save replaces a file that isn't this session's, NO_OUTPUT or
+   NO_MEMORY. Says what was done. */
+enum fate work_save(struct work *work, char *why, size_t size);
+
+/* Whether the output is INPUT. */
+bool work_is_over_input(const struct work *work);
+
+/* Writes to the output, if that replaces no file that isn't this session's; `again` is what replaces it then. EXIT, CHANGED_FILE,
+   NO_OUTPUT or NO_MEMORY, and why. */
+enum fate work_write_content(struct work *work, const struct content *content, const char *again, char *why, size_t size);
 
 /* Tells on standard error what was written, once the terminal is given back. */
 void work_tell(const struct work *work);

@@ -14,7 +14,7 @@ static const char *const KEYS[] = {
     "ESC ESC     runs the string, and keeps it",
     "DEL         takes back a byte; Ctrl-U a line; Ctrl-C the string",
     "Ctrl-V      the next key is a byte as it is",
-    "Ctrl-D      leaves with nothing written; EX writes and exits",
+    "Ctrl-D      leaves with nothing written; EX writes and exits; F3 writes and goes on",
     "Ctrl-Z      stops the program; Ctrl-\\ ends it",
     "Where nothing is typed:",
     "Up, Down    undo, redo ({ and } with ESC ESC as well)",

@@ -7,14 +7,15 @@
 enum { MOMENT = 6 };
 static const struct timespec SOON = {.tv_nsec = MOMENT * 1000000}, AT_ONCE;
 
-enum sequence { OTHER, UP, DOWN, LEFT, RIGHT, HOME, END, PAGE_UP, PAGE_DOWN, HELP };
+enum sequence { OTHER, UP, DOWN, LEFT, RIGHT, HOME, END, PAGE_UP, PAGE_DOWN, HELP, SAVE };
 
 /* What keys send, behind ESC [ or ESC O. */
 static const struct {
     const char *sent;
     enum sequence key;
 } SEQUENCES[] = {{"A", UP}, {"B", DOWN}, {"C", RIGHT}, {"D", LEFT}, {"H", HOME}, {"1~", HOME}, {"7~", HOME}, {"F", END}, {"4~", END},
-    {"8~", END}, {"5~", PAGE_UP}, {"6~", PAGE_DOWN}, {"P", HELP}, {"11~", HELP}, {"[A", HELP}};
+    {"8~", END}, {"5~", PAGE_UP}, {"6~", PAGE_DOWN}, {"P", HELP}, {"11~", HELP}, {"[A", HELP}, {"R", SAVE}, {"13~", SAVE},
+    {"[C", SAVE}};
 
 static enum sequence sequence_of(const uint8_t *bytes, size_t n)
 {
@@ -77,7 +78,7 @@ static enum fate drop(struct screen *screen)
 static enum fate leave(struct screen *screen, bool has_asked)
 {
     if (has_asked || !work_has_edits(&screen->work))
-        return END_OF_COMMANDS;
+        return work_leave(&screen->work);
     screen->has_asked = true;
     (void)snprintf(screen->message, sizeof screen->message, "Edits are not written: EX writes them, Ctrl-D once more leaves without.");
     return GOES_ON;
@@ -165,11 +166,14 @@ static enum fate press_sequence(void *to, const uint8_t *bytes, size_t n)
         return GOES_ON;
     if (key == OTHER || !is_empty)
         return ring();
-    if (key != UP && key != DOWN)
+    if (key != UP && key != DOWN && key != SAVE)
         return step(screen, key);
     if (screen->is_stepping)
         screen_end_steps(screen, false);
-    screen_undo(screen, key == DOWN);
+    if (key == SAVE)
+        (void)work_save(&screen->work, screen->message, sizeof screen->message);
+    else
+        screen_undo(screen, key == DOWN);
     return GOES_ON;
 }
 

@@ -82,7 +82,7 @@ static enum fate leave(struct editor *editor, bool has_asked)
     if (!tty_say("^D\r\n"))
         return SHOW_FAULT;
     if (has_asked || !work_has_edits(&editor->work))
-        return END_OF_COMMANDS;
+        return work_leave(&editor->work);
     editor->has_asked = true;
     editor->line = (struct line){.text = editor->line.text};
     return shown(tty_say("Edits are not written: EX writes them, and Ctrl-D once more leaves without.\r\n"));
@@ -152,10 +152,26 @@ static enum fate take_byte(void *to, uint8_t byte)
     return take(to, byte);
 }
 
-static enum fate refuse(void *to, const uint8_t *bytes, size_t n)
+/* What F3 sends, behind its ESC. */
+static bool is_save(const uint8_t *bytes, size_t n)
 {
-    (void)to, (void)bytes, (void)n;
-    return ring();
+    static const char *const SENT[] = {"OR", "[13~", "[[C"};
+    bool is = false;
+    for (size_t i = 0; i < sizeof SENT / sizeof *SENT; i++)
+        is |= n == strlen(SENT[i]) + 1 && memcmp(bytes + 1, SENT[i], n - 1) == 0;
+    return is;
+}
+
+static enum fate take_sequence(void *to, const uint8_t *bytes, size_t n)
+{
+    char why[WHY];
+    struct editor *editor = to;
+    if (!is_save(bytes, n) || editor->line.text.count > 0 || editor->is_naming)
+        return ring();
+    editor->has_failed = editor->has_asked = editor->has_warned = editor->is_quoted = false;
+    (void)work_save(&editor->work, why, sizeof why);
+    editor->line = (struct line){.text = editor->line.text};
+    return shown(tty_say("F3\r\n") && tty_say(why) && tty_say("\r\n"));
 }
 
 static void begin_paste(void *to)
@@ -164,7 +180,7 @@ static void begin_paste(void *to)
     editor->has_failed = editor->has_asked = editor->has_warned = editor->is_quoted = false;
 }
 
-static const struct taker TAKER = {.press = press_key, .sequence = refuse, .paste = take_byte, .begin_paste = begin_paste};
+static const struct taker TAKER = {.press = press_key, .sequence = take_sequence, .paste = take_byte, .begin_paste = begin_paste};
 
 /* After a stop the screen is another's, and so may be the mark of a paste's end. */
 static enum fate resume(struct editor *editor)
