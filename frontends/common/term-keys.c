@@ -50,6 +50,12 @@ static size_t sequence(const uint8_t *bytes, size_t n)
     return at < n && bytes[at] >= 0x40 && bytes[at] <= 0x7E ? at + 1 : 0;
 }
 
+/* How long the report of a mouse is that begins here, which no key sends, or 0: so it is none of what is typed beside it. */
+static size_t report(const uint8_t *bytes, size_t n)
+{
+    return n > 2 && memcmp(bytes, "\33[<", 3) == 0 ? sequence(bytes, n) : 0;
+}
+
 /* Whether all that came together is sequences of keys. Where anything else is with them it is text: nothing is lost. */
 static bool are_sequences(const struct bytes *together)
 {
@@ -76,8 +82,12 @@ enum fate keys_receive(struct keys *keys, const struct bytes *together, const st
     if (!keys->is_pasted && are_sequences(together))
         return take_sequences(together, taker, to);
     while (fate == GOES_ON && at < together->count) {
+        size_t length = keys->is_pasted ? 0 : report(together->at + at, together->count - at);
         if (keys->is_pasted) {
             fate = paste(keys, together->at[at++], taker, to);
+        } else if (length > 0) {
+            fate = taker->sequence(to, together->at + at, length);
+            at += length;
         } else if (begins_paste(together->at + at, together->count - at)) {
             *keys = (struct keys){.is_pasted = true};
             taker->begin_paste(to);

@@ -14,7 +14,7 @@ extern char *tigetstr(const char *name);
 extern struct term *set_curterm(struct term *terminal);
 extern int del_curterm(struct term *terminal);
 
-enum { MOST_LINE = 4, MOST_TYPED = 4, LEAST_FOR_STRIP = 64, CAPABILITIES = 256 };
+enum { MOST_LINE = 4, MOST_TYPED = 4, LEAST_FOR_STRIP = 64, CAPABILITIES = 256, MODES = 32 };
 
 /* Adds what the terminal's description has of this name, without the waits in it. */
 static void add_capability(char *to, const char *name)
@@ -32,17 +32,17 @@ static void add_capability(char *to, const char *name)
     to[at] = '\0';
 }
 
-/* What the terminal is shown by a handler, which can't call ncurses: another screen, and the mark of pastes. False where the terminal
-   isn't known, or can't move its cursor. */
+/* What the terminal is shown by a handler, which can't call ncurses: another screen, and that it marks pastes and tells of the wheel. False
+   where the terminal isn't known, or can't move its cursor. */
 bool draw_marks(struct marks *marks)
 {
-    static char begin[CAPABILITIES], end[CAPABILITIES];
+    static char begin[CAPABILITIES + MODES], end[CAPABILITIES];
     int answer;
     if (setupterm(NULL, STDOUT_FILENO, &answer) != OK || tigetstr("cup") == NULL)
         return false;
     add_capability(begin, "smcup");
-    (void)strcat(begin, "\33[?2004h");
-    (void)strcat(end, "\33[?2004l");
+    (void)strcat(begin, "\33[?2004h\33[?1000h\33[?1006h");
+    (void)strcat(end, "\33[?1006l\33[?1000l\33[?2004l");
     add_capability(end, "sgr0");
     add_capability(end, "cnorm");
     add_capability(end, tigetstr("rmcup") != NULL ? "rmcup" : "clear");

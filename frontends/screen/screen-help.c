@@ -20,6 +20,7 @@ static const char *const KEYS[] = {
     "Up, Down    undo, redo ({ and } with ESC ESC as well)",
     "Left, Right the steps of the last string; Home, End, Page Up, Page Down",
     "Enter there stays at the step",
+    "Shift-Up, Shift-Down, the wheel, Ctrl-Page Up, Ctrl-Page Down  scroll",
     "F1          this help, until the next key",
 };
 

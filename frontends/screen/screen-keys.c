@@ -1,13 +1,15 @@
 /* Keys, pastes and previews, as they come, and what they do. */
 #include "screen.h"
 #include <stdio.h>
+#include <stdlib.h>
 #include <string.h>
 
 /* How long the screen waits for a preview before it shows the key alone; and nothing, to see what is there. */
 enum { MOMENT = 6 };
 static const struct timespec SOON = {.tv_nsec = MOMENT * 1000000}, AT_ONCE;
 
-enum sequence { OTHER, UP, DOWN, LEFT, RIGHT, HOME, END, PAGE_UP, PAGE_DOWN, HELP, SAVE };
+enum sequence { OTHER, UP, DOWN, LEFT, RIGHT, HOME, END, PAGE_UP, PAGE_DOWN, HELP, SAVE, ROW_UP, ROW_DOWN, SCREEN_UP,
+    SCREEN_DOWN, WHEEL_UP, WHEEL_DOWN, MOUSE };
 
 /* What keys send, behind ESC [ or ESC O. */
 static const struct {
@@ -15,10 +17,19 @@ static const struct {
     enum sequence key;
 } SEQUENCES[] = {{"A", UP}, {"B", DOWN}, {"C", RIGHT}, {"D", LEFT}, {"H", HOME}, {"1~", HOME}, {"7~", HOME}, {"F", END}, {"4~", END},
     {"8~", END}, {"5~", PAGE_UP}, {"6~", PAGE_DOWN}, {"P", HELP}, {"11~", HELP}, {"[A", HELP}, {"R", SAVE}, {"13~", SAVE},
-    {"[C", SAVE}};
+    {"[C", SAVE}, {"1;2A", ROW_UP}, {"1;2B", ROW_DOWN}, {"a", ROW_UP}, {"b", ROW_DOWN}, {"5;5~", SCREEN_UP}, {"6;5~", SCREEN_DOWN}};
+
+/* What a mouse tells: behind ESC [ < the number of a button, whose bits 4, 8 and 16 are keys that are held, and then the place. */
+static enum sequence mouse(const uint8_t *bytes)
+{
+    long button = strtol((const char *)bytes + 3, NULL, 10) & ~28L;
+    return button == 64 ? WHEEL_UP : button == 65 ? WHEEL_DOWN : MOUSE;
+}
 
 static enum sequence sequence_of(const uint8_t *bytes, size_t n)
 {
+    if (bytes[1] == '[' && bytes[2] == '<')
+        return mouse(bytes);
     for (size_t i = 0; i < sizeof SEQUENCES / sizeof *SEQUENCES; i++) {
         if (n == strlen(SEQUENCES[i].sent) + 2 && memcmp(bytes + 2, SEQUENCES[i].sent, n - 2) == 0)
             return SEQUENCES[i].key;
@@ -112,7 +123,7 @@ static bool begin_key(struct screen *screen)
 {
     bool was_helped = screen->is_helped;
     screen->message[0] = '\0';
-    screen->is_helped = screen->has_asked = screen->has_warned = false;
+    screen->is_helped = screen->has_asked = screen->has_warned = screen->is_scrolled = false;
     return was_helped;
 }
 
@@ -154,16 +165,40 @@ static enum fate step(struct screen *screen, enum sequence key)
     return screen->is_stepping ? GOES_ON : ring();
 }
 
+/* The rows by which a key scrolls. */
+static int rows_of(enum sequence key)
+{
+    struct window window;
+    draw_size(&window);
+    int most = window.rows > 3 ? (int)window.rows - 2 : 1;
+    switch (key) {
+    case ROW_UP: return -1;
+    case ROW_DOWN: return 1;
+    case WHEEL_UP: return -3;
+    case WHEEL_DOWN: return 3;
+    case SCREEN_UP: return -most;
+    case SCREEN_DOWN: return most;
+    default: return 0;
+    }
+}
+
 static enum fate press_sequence(void *to, const uint8_t *bytes, size_t n)
 {
     struct screen *screen = to;
     enum sequence key = sequence_of(bytes, n);
-    bool is_empty = screen->line.count == 0 && !screen->is_naming;
+    bool is_empty = screen->line.count == 0 && !screen->is_naming, was_scrolled = screen->is_scrolled;
+    if (key == MOUSE)
+        return GOES_ON;
     if (begin_key(screen) && key == HELP)
         return GOES_ON;
     screen->is_helped = key == HELP;
     if (key == HELP)
         return GOES_ON;
+    if (rows_of(key) != 0) {
+        screen->scroll = was_scrolled ? screen->scroll : 0;
+        screen_scroll(screen, rows_of(key));
+        return GOES_ON;
+    }
     if (key == OTHER || !is_empty)
         return ring();
     if (key != UP && key != DOWN && key != SAVE)
@@ -244,8 +279,10 @@ static void take_view(struct screen *screen)
         return;
     }
     screen->is_previewed = screen->line.count > 0 || screen->is_stepping;
-    if (screen->is_previewed)
+    if (screen->is_previewed) {
         screen->top = screen->preview.seen->from;
+        screen->scroll = 0;
+    }
 }
 
 /* Begins a preview of what is typed now, and waits a little for it, so that both are drawn at once. */

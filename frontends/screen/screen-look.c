@@ -52,6 +52,12 @@ static bool is_line_start(const struct teco *t, size_t at, size_t length)
 static void find_window(const struct teco *t, struct view *view, const struct window *window)
 {
     bool stands = is_line_start(t, window->top, view->length);
+    view->is_scrolled = window->is_scrolled;
+    if (window->is_scrolled) {
+        size_t top = window->top < view->length ? window->top : view->length;
+        read_window(t, view, scrolled(t, top, window->scroll, window->columns));
+        return;
+    }
     bool stays = view->subject == OF_STRING && view->told.code == CODE_SRH && stands && window->top < view->length;
     if (stands)
         read_window(t, view, window->top);

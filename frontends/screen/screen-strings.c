@@ -17,14 +17,21 @@ const uint8_t *screen_line(const struct screen *screen, size_t *n)
     return screen->line.at;
 }
 
+static struct window window_of(struct screen *screen)
+{
+    struct window window = {.top = screen->top, .is_scrolled = screen->is_scrolled, .scroll = screen->scroll};
+    draw_size(&window);
+    return window;
+}
+
 /* Looks at the session itself: after a string, an undo or a redo, and where nothing is typed. */
 void screen_look(struct screen *screen)
 {
-    struct window window = {.top = screen->top};
-    draw_size(&window);
+    struct window window = window_of(screen);
     screen->still.subject = OF_SESSION;
     look(&screen->work.session, &screen->still, &window);
     screen->top = screen->still.from;
+    screen->scroll = 0;
     screen->is_previewed = false;
 }
 
@@ -36,8 +43,7 @@ static void say(struct screen *screen, const char *text)
 /* Begins a preview, which has the window of the screen. */
 void screen_begin(struct screen *screen, struct request request, const uint8_t *text)
 {
-    request.window.top = screen->top;
-    draw_size(&request.window);
+    request.window = window_of(screen);
     if (!preview_begin(&screen->preview, &request, text)) {
         screen_look(screen);
         say(screen, "no copy of the process can be made: the string is not shown as it is typed");
@@ -151,6 +157,17 @@ void screen_step(struct screen *screen, uint64_t to)
     screen->is_stepping = true;
     screen->step = to < screen->steps ? to : screen->steps;
     screen_begin(screen, (struct request){.subject = OF_STEP, .number = screen->step}, NULL);
+}
+
+/* Goes over the text, of which as much is as was: the pointer and the history stay. */
+void screen_scroll(struct screen *screen, int rows)
+{
+    screen->is_scrolled = true;
+    screen->scroll += rows;
+    if (screen->is_stepping)
+        screen_step(screen, screen->step);
+    else
+        screen->is_other = true;
 }
 
 /* Stays at a step, which is a rewind, or goes back to the end of the string. */

@@ -29,7 +29,7 @@ static void draw_end_of_text(const struct view *view, int row, int column, bool 
 /* The row of the text with which a window of so many rows begins, so that the pointer is in it. */
 static size_t first_row(const struct view *view, size_t rows, size_t columns)
 {
-    if (view->pointer < view->from)
+    if (view->pointer < view->from || view->is_scrolled)
         return 0;
     size_t stands = row_of_pointer(view, SHOWN, columns);
     return stands < rows || stands == SHOWN ? 0 : stands - (rows - 1);

@@ -4,7 +4,7 @@
  * teco-screen.c has the program. screen-keys.c waits for keys and previews, and says what keys do; screen-strings.c does what a string
  * asks, undoes, steps and writes. screen-preview.c has the copy of the process in which a string is tried while it is typed, and
  * screen-try.c what the copy does. screen-close.c closes a text that is open, and screen-token.c reads tokens. screen-look.c looks at a
- * session, screen-marks.c tells which bytes a string put in, screen-lines.c counts lines. screen-draw.c draws the screen,
+ * session, screen-scroll.c tells where a window begins that is scrolled, screen-marks.c tells which bytes a string put in, screen-lines.c counts lines. screen-draw.c draws the screen,
  * screen-window.c the text and the history, screen-rows.c the rows below them, screen-glyph.c tells how bytes are shown, and
  * screen-help.c what a command does. What teco-term has too comes from terminal.h.
  */
@@ -25,9 +25,11 @@ enum { MARK_CAME = 1, MARK_GONE_BEFORE = 2 };
 /* What is shown: the session itself, or what a string, a step of the last one, an undo or a redo would make of it. */
 enum subject { OF_SESSION, OF_STRING, OF_STEP, OF_UNDO, OF_REDO };
 
-/* Where the window begins, and how much fits into it. */
+/* Where the window begins, and how much fits into it. It follows the pointer, or was scrolled: then it is so many rows below `top`. */
 struct window {
     size_t top, rows, columns;
+    bool is_scrolled;
+    int scroll;
 };
 
 /* What is to be tried: a string of n bytes, or a number of steps, undos or redos. */
@@ -53,6 +55,7 @@ struct view {
     bool goes_on;            /* a longer run is under way */
     bool is_broken_off;      /* it took too long */
     bool is_done;            /* an exit has ended the session */
+    bool is_scrolled;        /* the window doesn't follow the pointer */
     size_t length, pointer, place, output, line;
     struct same same;        /* of the text whose lines were counted */
     size_t from, count;      /* the bytes below are those from a place on */
@@ -104,7 +107,10 @@ void walk_behind(struct walk *walk, const struct glyph *glyph);
 /* The row of the window in which the pointer stands, or `rows` where it is below or above. */
 size_t row_of_pointer(const struct view *view, size_t rows, size_t columns);
 
-/* Looks at a session. The window follows the pointer, but not of a search that failed while it is typed. */
+/* Where a window begins that is scrolled by so many rows, down, or up where they are negative. */
+size_t scrolled(const struct teco *t, size_t top, int rows, size_t columns);
+
+/* Looks at a session. The window follows the pointer, but not of a search that failed while it is typed, and not where it is scrolled. */
 void look(const struct teco *t, struct view *view, const struct window *window);
 
 /* Before a string is undone or cut, and after one is redone: what it changed is no longer as it was. */
@@ -180,7 +186,9 @@ struct screen {
     bool is_quoted, is_naming, has_asked, has_warned, is_helped;
     bool is_other;           /* the string is another one than was tried last, */
     bool is_tentative;       /* and ends with an ESC that may begin a sequence */
-    size_t top;              /* where the window begins */
+    size_t top;              /* where the window begins, */
+    bool is_scrolled;        /* where keys have scrolled it to, and no other key came since, */
+    int scroll;              /* and by how many rows more than is shown */
     char message[400];
 };
 
@@ -196,6 +204,7 @@ void screen_undo(struct screen *screen, bool is_redo);
 void screen_step(struct screen *screen, uint64_t to);
 void screen_end_steps(struct screen *screen, bool stays);
 void screen_try(struct screen *screen);
+void screen_scroll(struct screen *screen, int rows);
 void screen_begin(struct screen *screen, struct request request, const uint8_t *text);
 
 /* Takes keys and previews until the program ends. */

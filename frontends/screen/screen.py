@@ -12,6 +12,8 @@ KNOWN = r"""tecotest|what the rows know,
 	am, xenl, colors#8, pairs#64, cols#80, lines#24,
 	clear=\E[H\E[J, cup=\E[%i%p1%d;%p2%dH, el=\E[K, ed=\E[J, bel=^G, cr=\r, smcup=\E[?1049h, rmcup=\E[?1049l,
 	sgr0=\E[m, bold=\E[1m, dim=\E[2m, smul=\E[4m, rmul=\E[24m, rev=\E[7m, setaf=\E[3%p1%dm, setab=\E[4%p1%dm, op=\E[39m,
+tecolong|the same with a long beginning,
+	smcup=""" + 31 * r"\E[?1049h" + r""", use=tecotest,
 tecomono|the same without colors,
 	am, xenl, cols#80, lines#24,
 	clear=\E[H\E[J, cup=\E[%i%p1%d;%p2%dH, el=\E[K, ed=\E[J, bel=^G, cr=\r, smcup=\E[?1049h, rmcup=\E[?1049l,
@@ -35,6 +37,7 @@ class FullScreen(Screen):
         self.marks = [[""] * columns for _ in range(rows)]
         self.pen, self.color = set(), ""
         self.is_other = False
+        self.mouse = set()
         self.colors = 0
 
     def resize(self, rows, columns):
@@ -58,6 +61,8 @@ class FullScreen(Screen):
     def set_mode(self, what):
         if what in (b"2004h", b"2004l"):
             self.marks_pastes = what == b"2004h"
+        elif what in (b"1000h", b"1000l", b"1006h", b"1006l"):
+            self.mouse = self.mouse | {what[:4]} if what.endswith(b"h") else self.mouse - {what[:4]}
         elif what in (b"1049h", b"1049l"):
             self.is_other = what == b"1049h"
             self.clear(0)
