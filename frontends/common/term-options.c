@@ -35,11 +35,10 @@ static bool read_line(const struct program *program, int count, char **words, st
         default: is_good = false;
         }
     }
-    options->input = optind < count ? words[optind] : NULL;
-    is_good = is_good && !(options->in_place && options->output != NULL);
-    if (options->in_place)
-        options->output = options->input;
-    return is_good && (options->help || options->version || optind + 1 == count);
+    options->inputs = words + optind;
+    options->count = count - optind;
+    is_good = is_good && (options->output == NULL || (!options->in_place && options->count == 1));
+    return is_good && (options->help || options->version || options->count > 0);
 }
 
 int options_read(const struct program *program, int count, char **words, struct options *options)
@@ -56,14 +55,29 @@ int options_read(const struct program *program, int count, char **words, struct 
     return -1;
 }
 
-int conclude(const struct program *program, const char *input, enum fate fate)
+/* The status that one INPUT has. */
+static int conclude(const struct program *program, const char *input, enum fate fate)
 {
     static const char *const SAID[] = {[NO_INPUT] = "cannot read ", [LARGE_INPUT] = " is too large",
         [NO_TERMINAL] = "standard input and output are no terminal",
         [POOR_TERMINAL] = "this terminal can't move its cursor, or isn't known: TERM says what it is", [READ_FAULT] = "cannot read commands",
         [SHOW_FAULT] = "cannot show", [NO_MEMORY] = "no memory"};
-    if (fate == EXIT || fate == END_OF_COMMANDS)
-        return fate == EXIT ? 0 : 2;
+    if (fate == EXIT || fate == SAVED || fate == END_OF_COMMANDS)
+        return fate == END_OF_COMMANDS ? 2 : 0;
     (void)fprintf(stderr, "%s: %s%s%s\n", program->name, fate == LARGE_INPUT ? input : "", SAID[fate], fate == NO_INPUT ? input : "");
     return 1;
+}
+
+int edit_all(const struct program *program, struct options *options, enum fate (*edit)(const struct options *options))
+{
+    int status = 0;
+    enum fate fate = EXIT;
+    for (int i = 0; i < options->count && (fate == EXIT || fate == NO_INPUT || fate == LARGE_INPUT); i++) {
+        options->input = options->inputs[i];
+        options->output = options->in_place ? options->input : options->output;
+        fate = edit(options);
+        int own = conclude(program, options->input, fate);
+        status = own == 1 || status == 0 ? own : status;
+    }
+    return status;
 }

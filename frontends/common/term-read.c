@@ -68,6 +68,12 @@ void tty_resume(void)
     coming = (struct keys){0};
 }
 
+void tty_drop(void)
+{
+    taken = waiting.count = 0;
+    coming = (struct keys){0};
+}
+
 /* Keys that wait come first. */
 static size_t take_waiting(uint8_t *to, size_t most)
 {

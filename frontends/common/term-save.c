@@ -73,7 +73,7 @@ static void take_as_base(struct work *work, const struct bytes *output)
 
 enum fate work_leave(struct work *work)
 {
-    return work->is_saved && !work_has_edits(work) ? EXIT : END_OF_COMMANDS;
+    return work->is_saved && !work_has_edits(work) ? SAVED : END_OF_COMMANDS;
 }
 
 enum fate work_save(struct work *work, char *why, size_t size)

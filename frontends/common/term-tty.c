@@ -161,6 +161,7 @@ enum fate tty_begin(const struct marks *own_marks)
         return NO_TERMINAL;
     bool is_poor = name != NULL && strcmp(name, "dumb") == 0;
     make_own();
+    tty_drop();
     bool is_set = !is_poor && handle_all() && set_own();
     tty_unblock(&usual);
     return is_set ? GOES_ON : is_poor ? POOR_TERMINAL : NO_TERMINAL;

@@ -31,7 +31,7 @@ enum { BELL = 7, TAB = 9, LINE_FEED = 10, RETURN = 13, ESCAPE = 27, DELETE = 127
 
 /* How the program ends, where it doesn't go on. */
 enum fate {
-    GOES_ON, EXIT, END_OF_COMMANDS, NO_INPUT, LARGE_INPUT, NO_OUTPUT, CHANGED_FILE, NO_TERMINAL, POOR_TERMINAL, READ_FAULT, SHOW_FAULT,
+    GOES_ON, EXIT, SAVED, END_OF_COMMANDS, NO_INPUT, LARGE_INPUT, NO_OUTPUT, CHANGED_FILE, NO_TERMINAL, POOR_TERMINAL, READ_FAULT, SHOW_FAULT,
     NO_MEMORY
 };
 
@@ -54,6 +54,8 @@ void bytes_free(struct bytes *bytes);
 /* THE LINE OF THE PROGRAM */
 
 struct options {
+    char **inputs; /* so many INPUTs, one after another; and the one that is edited */
+    int count;
     const char *input, *output; /* the output's name may be none: INPUT.out then, or INPUT where that isn't there yet */
     uint64_t limit, depth;
     bool in_place, steps, help, version;
@@ -68,8 +70,9 @@ struct program {
 /* Reads the line. -1 if the program goes on, or else the status with which it ends: after its help or its version, or of a faulty line. */
 int options_read(const struct program *program, int count, char **words, struct options *options);
 
-/* The status of the program. Says on standard error what there is to say. */
-int conclude(const struct program *program, const char *input, enum fate fate);
+/* Edits one INPUT after another, as long as each ends by an exit or can't be read. The status of the program. Says on standard error what
+   there is to say. */
+int edit_all(const struct program *program, struct options *options, enum fate (*edit)(const struct options *options));
 
 /* FILES */
 
@@ -255,6 +258,9 @@ struct marks {
     const char *begin, *end;
     bool is_full;
 };
+
+/* Drops the keys that came while the last string ran. */
+void tty_drop(void);
 
 /* Sets the terminal for keys. GOES_ON, NO_TERMINAL, or POOR_TERMINAL where it is a dumb one. tty_end gives it back as it was; so does
    each signal that ends the program, which leaves the journal too, or stops it. */

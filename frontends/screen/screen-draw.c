@@ -37,7 +37,11 @@ static void add_capability(char *to, const char *name)
 bool draw_marks(struct marks *marks)
 {
     static char begin[CAPABILITIES + MODES], end[CAPABILITIES];
+    static bool is_known;
     int answer;
+    *marks = (struct marks){.begin = begin, .end = end, .is_full = true};
+    if (is_known)
+        return true;
     if (setupterm(NULL, STDOUT_FILENO, &answer) != OK || tigetstr("cup") == NULL)
         return false;
     add_capability(begin, "smcup");
@@ -46,7 +50,7 @@ bool draw_marks(struct marks *marks)
     add_capability(end, "sgr0");
     add_capability(end, "cnorm");
     add_capability(end, tigetstr("rmcup") != NULL ? "rmcup" : "clear");
-    *marks = (struct marks){.begin = begin, .end = end, .is_full = true};
+    is_known = true;
     (void)del_curterm(set_curterm(NULL));
     return true;
 }
@@ -55,9 +59,13 @@ bool draw_begin(void)
 {
     static const short COLORS_OF[PAIRS] = {[CONTROLS] = COLOR_CYAN, [NEW] = COLOR_GREEN, [OLD] = COLOR_RED, [ERROR] = COLOR_RED,
         [GOOD] = COLOR_GREEN, [NUMBERS] = COLOR_CYAN, [COMMANDS] = COLOR_YELLOW, [TEXTS] = COLOR_GREEN, [BLOCKS] = COLOR_MAGENTA};
+    static bool is_begun;
     const char *plain = getenv("NO_COLOR");
+    if (is_begun)
+        return true;
     if (newterm(NULL, stdout, stdin) == NULL)
         return false;
+    is_begun = true;
     if ((plain == NULL || *plain == '\0') && has_colors() && start_color() == OK && use_default_colors() == OK) {
         for (short i = 1; i < PAIRS; i++)
             (void)init_pair(i, COLORS_OF[i], -1);

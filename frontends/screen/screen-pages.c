@@ -4,6 +4,16 @@
 
 enum { PIECE = 1 << 16, FORM_FEED = 12 };
 
+/* So many are before each piece, of which so many are counted. */
+static size_t *before, counted;
+
+void pages_forget(void)
+{
+    free(before);
+    before = NULL;
+    counted = 0;
+}
+
 /* How many form feeds there are among so many bytes of INPUT from a place on, at most a piece. Tells whether the last one is one. */
 static size_t form_feeds(const struct teco *t, size_t from, size_t n, bool *is_last)
 {
@@ -19,7 +29,6 @@ static size_t form_feeds(const struct teco *t, size_t from, size_t n, bool *is_l
 
 size_t page_at(const struct work *work, size_t place)
 {
-    static size_t *before, counted;
     bool is_last = false;
     if (place == 0)
         return 0;

@@ -128,6 +128,7 @@ size_t lines_before(const struct teco *t, size_t place, size_t length, struct sa
 
 /* The page of a place of INPUT, from 1, or 0 where nothing is read. */
 size_t page_at(const struct work *work, size_t place);
+void pages_forget(void);
 
 /* PREVIEWS */
 

@@ -1,7 +1,7 @@
 /*
  * teco-screen - TECO on a full screen, where a command string shows what it does while it is typed
  *
- *   teco-screen [-i | -o FILE] [--limit N] [--undo N] INPUT
+ *   teco-screen [-i | -o FILE] [--limit N] [--undo N] INPUT..
  *
  * docs/TERMINAL.md tells of the rule and the keys. A string is tried in a copy of the process; nothing here changes the text of the session
  * but through teco_run, teco_undo, teco_redo and teco_rewind.
@@ -9,21 +9,22 @@
 #include "screen.h"
 #include <locale.h>
 #include <stdio.h>
+#include <string.h>
 
 static const struct program PROGRAM = {
     .name = "teco-screen",
-    .usage = "usage: teco-screen [-i | -o FILE] [--limit N] [--undo N] INPUT\n",
+    .usage = "usage: teco-screen [-i | -o FILE] [--limit N] [--undo N] INPUT..\n",
     /* The completions of the shells are made of these lines, by tools/completions. */
     .help = "TECO on a full screen: a command string shows what it does while it is typed\n"
             "\n"
-            "Usage: teco-screen [OPTIONS] <INPUT>\n"
+            "Usage: teco-screen [OPTIONS] <INPUT>...\n"
             "\n"
             "Arguments:\n"
-            "  <INPUT>  The file to edit; it stays as it is, unless it is the output too. One that is not there is made\n"
+            "  <INPUT>...  The files to edit, one after another; each stays as it is, unless it is the output too\n"
             "\n"
             "Options:\n"
             "  -o, --output <FILE>  Where the output goes after an exit; INPUT.out without it\n"
-            "  -i, --in-place       The output goes over INPUT\n"
+            "  -i, --in-place       The output goes over each INPUT\n"
             "      --limit <N>      The most steps that each command string may take, at most 1000000000000; 1000000 without it\n"
             "      --undo <N>       The most command strings kept to be undone, at most 100000; all without it\n"
             "  -h, --help           Print help\n"
@@ -61,22 +62,30 @@ static enum fate edit_at_terminal(struct screen *screen)
     return fate;
 }
 
-int main(int count, char **words)
+static enum fate edit(const struct options *options)
 {
-    struct options options;
     static struct screen screen;
-    int status = options_read(&PROGRAM, count, words, &options);
-    if (status >= 0)
-        return status;
-    (void)setlocale(LC_CTYPE, "");
-    enum fate fate = work_open(&screen.work, &options);
-    if (fate == GOES_ON)
+    memset(&screen, 0, sizeof screen);
+    enum fate fate = work_open(&screen.work, options);
+    if (fate == GOES_ON) {
         fate = preview_open(&screen.preview, &screen.work) ? edit_at_terminal(&screen) : NO_MEMORY;
-    preview_close(&screen.preview);
+        preview_close(&screen.preview);
+    }
     work_tell(&screen.work);
     work_close(&screen.work);
     bytes_free(&screen.line);
     bytes_free(&screen.pending);
     lines_forget();
-    return conclude(&PROGRAM, options.input, fate);
+    pages_forget();
+    return fate;
+}
+
+int main(int count, char **words)
+{
+    struct options options;
+    int status = options_read(&PROGRAM, count, words, &options);
+    if (status >= 0)
+        return status;
+    (void)setlocale(LC_CTYPE, "");
+    return edit_all(&PROGRAM, &options, edit);
 }

@@ -1,7 +1,7 @@
 /*
  * teco-term - TECO for a person at a terminal
  *
- *   teco-term [-i | -o FILE] [--limit N] [--undo N] [--steps] INPUT
+ *   teco-term [-i | -o FILE] [--limit N] [--undo N] [--steps] INPUT..
  *
  * Keys make command strings, which are run at ESC ESC by the library of teco.h; docs/TERMINAL.md tells of the keys. What a string types is
  * shown when it has ended. Nothing here changes a text but through teco_run, teco_undo, teco_redo and teco_rewind.
@@ -15,18 +15,18 @@ static const struct marks MARKS = {.begin = "\33[?2004h", .end = "\33[?2004l"};
 static const struct program PROGRAM = {
     .name = "teco-term",
     .has_steps = true,
-    .usage = "usage: teco-term [-i | -o FILE] [--limit N] [--undo N] [--steps] INPUT\n",
+    .usage = "usage: teco-term [-i | -o FILE] [--limit N] [--undo N] [--steps] INPUT..\n",
     /* The completions of the shells are made of these lines, by tools/completions. */
     .help = "TECO for a person at a terminal: a command string is run at ESC ESC, and can be undone\n"
             "\n"
-            "Usage: teco-term [OPTIONS] <INPUT>\n"
+            "Usage: teco-term [OPTIONS] <INPUT>...\n"
             "\n"
             "Arguments:\n"
-            "  <INPUT>  The file to edit; it stays as it is, unless it is the output too. One that is not there is made\n"
+            "  <INPUT>...  The files to edit, one after another; each stays as it is, unless it is the output too\n"
             "\n"
             "Options:\n"
             "  -o, --output <FILE>  Where the output goes after an exit; INPUT.out without it\n"
-            "  -i, --in-place       The output goes over INPUT\n"
+            "  -i, --in-place       The output goes over each INPUT\n"
             "      --limit <N>      The most steps that each command string may take, at most 1000000000000; 1000000 without it\n"
             "      --undo <N>       The most command strings kept to be undone, at most 100000; all without it\n"
             "      --steps          Shows after each string how many steps it took\n"
@@ -57,18 +57,23 @@ static enum fate edit_at_terminal(struct editor *editor)
     return fate;
 }
 
-int main(int count, char **words)
+static enum fate edit(const struct options *options)
 {
-    struct options options;
     struct editor editor = {0};
-    int status = options_read(&PROGRAM, count, words, &options);
-    if (status >= 0)
-        return status;
-    (void)setlocale(LC_CTYPE, "");
-    enum fate fate = work_open(&editor.work, &options);
+    enum fate fate = work_open(&editor.work, options);
     if (fate == GOES_ON)
         fate = edit_at_terminal(&editor);
     work_tell(&editor.work);
     work_close(&editor.work);
-    return conclude(&PROGRAM, options.input, fate);
+    return fate;
+}
+
+int main(int count, char **words)
+{
+    struct options options;
+    int status = options_read(&PROGRAM, count, words, &options);
+    if (status >= 0)
+        return status;
+    (void)setlocale(LC_CTYPE, "");
+    return edit_all(&PROGRAM, &options, edit);
 }
