@@ -115,7 +115,7 @@ out/reference.h: docs/REFERENCE.md frontends/screen/reference
 	@mkdir -p out
 	frontends/screen/reference > $@
 
-out/teco-screen: $(SCREEN_SOURCES) $(SHARED) frontends/screen/screen.h $(HEADERS) out/reference.h out/libteco_c.a
+out/teco-screen: $(SCREEN_SOURCES) $(SHARED) frontends/screen/screen.h frontends/screen/screen-commands.h $(HEADERS) out/reference.h out/libteco_c.a
 	$(CC) -std=c11 -pthread $(CFLAGS) -Ibindings/c -Ifrontends/common -Iout $(SCREEN_SOURCES) $(SHARED) out/libteco_c.a -o $@ $(NCURSES) $(LDFLAGS)
 
 # The page of the language for man, made of the reference.

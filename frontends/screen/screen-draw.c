@@ -14,7 +14,7 @@ extern char *tigetstr(const char *name);
 extern struct term *set_curterm(struct term *terminal);
 extern int del_curterm(struct term *terminal);
 
-enum { MOST_LINE = 4, MOST_TYPED = 4, LEAST_FOR_STRIP = 64, CAPABILITIES = 256, MODES = 32 };
+enum { MOST_LINE = 4, MOST_TYPED = 4, CAPABILITIES = 256, MODES = 32 };
 
 /* Adds what the terminal's description has of this name, without the waits in it. */
 static void add_capability(char *to, const char *name)
@@ -55,10 +55,28 @@ bool draw_marks(struct marks *marks)
     return true;
 }
 
+/* Colors that can be read on a light ground and on a dark one: of the first eight these are red and magenta alone. */
+static void begin_colors(void)
+{
+    enum { GREEN = 28, TEAL = 30, BROWN = 130, RED = 160, PURPLE = 163, BLACK = 16, GOLD = 220 };
+    static const short OF_MANY[PAIRS] = {[CONTROLS] = TEAL, [NEW] = GREEN, [OLD] = RED, [ERROR] = RED, [GOOD] = GREEN, [NUMBERS] = TEAL,
+        [COMMANDS] = BROWN, [TEXTS] = GREEN, [BLOCKS] = PURPLE, [HITS] = BLACK};
+    static const short OF_FEW[PAIRS] = {[CONTROLS] = COLOR_MAGENTA, [NEW] = COLOR_MAGENTA, [OLD] = COLOR_RED, [ERROR] = COLOR_RED,
+        [GOOD] = -1, [NUMBERS] = -1, [COMMANDS] = -1, [TEXTS] = COLOR_MAGENTA, [BLOCKS] = -1, [HITS] = COLOR_BLACK};
+    bool has_many = COLORS == 256; /* where there are more, a number is the color itself */
+    for (short i = 1; i < PAIRS; i++)
+        (void)init_pair(i, (has_many ? OF_MANY : OF_FEW)[i], i != HITS ? -1 : has_many ? GOLD : COLOR_YELLOW);
+}
+
+static bool draws_colors;
+
+bool is_in_color(void)
+{
+    return draws_colors;
+}
+
 bool draw_begin(void)
 {
-    static const short COLORS_OF[PAIRS] = {[CONTROLS] = COLOR_CYAN, [NEW] = COLOR_GREEN, [OLD] = COLOR_RED, [ERROR] = COLOR_RED,
-        [GOOD] = COLOR_GREEN, [NUMBERS] = COLOR_CYAN, [COMMANDS] = COLOR_YELLOW, [TEXTS] = COLOR_GREEN, [BLOCKS] = COLOR_MAGENTA};
     static bool is_begun;
     const char *plain = getenv("NO_COLOR");
     if (is_begun)
@@ -66,23 +84,10 @@ bool draw_begin(void)
     if (newterm(NULL, stdout, stdin) == NULL)
         return false;
     is_begun = true;
-    if ((plain == NULL || *plain == '\0') && has_colors() && start_color() == OK && use_default_colors() == OK) {
-        for (short i = 1; i < PAIRS; i++)
-            (void)init_pair(i, COLORS_OF[i], -1);
-    }
+    draws_colors = (plain == NULL || *plain == '\0') && has_colors() && start_color() == OK && use_default_colors() == OK;
+    if (draws_colors)
+        begin_colors();
     return true;
-}
-
-bool has_strip(void)
-{
-    return COLS >= LEAST_FOR_STRIP;
-}
-
-/* Room for the text: all rows but the title, the typed text, the string and the state. */
-void draw_size(struct window *window)
-{
-    window->rows = LINES > 4 ? (size_t)LINES - 3 : 1;
-    window->columns = has_strip() ? (size_t)(COLS - STRIP - 1) : COLS > 1 ? (size_t)COLS : 1;
 }
 
 /* In the size that the terminal has now, with nothing of what is there. */
@@ -134,6 +139,14 @@ static void draw_title(const struct screen *screen)
     (void)attr_set(0, 0, NULL);
 }
 
+/* The pane and the text; a mark of the text is drawn over the line between them. */
+static void draw_beside(const struct screen *screen, int top, int rows)
+{
+    if (has_pane())
+        draw_pane(screen, top, rows);
+    draw_window(screen_view(screen), top, rows);
+}
+
 static void draw_parts(const struct screen *screen)
 {
     int line = line_rows(screen), typed = typed_rows(screen_view(screen));
@@ -146,9 +159,7 @@ static void draw_parts(const struct screen *screen)
     if (screen->is_helped)
         draw_help(screen, 1, window);
     else
-        draw_window(screen_view(screen), 1, window, has_strip() ? COLS - STRIP - 1 : COLS);
-    if (has_strip() && !screen->is_helped)
-        draw_strip(screen, 1, window);
+        draw_beside(screen, 1, window);
     draw_typed(screen_view(screen), 1 + window, typed);
     draw_state(screen, LINES - 1);
     draw_line(screen, LINES - 1 - line, line);

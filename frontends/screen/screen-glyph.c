@@ -23,6 +23,31 @@ static void show_number(struct glyph *glyph, uint8_t byte)
     glyph->shown[3] = (wchar_t)DIGITS[byte & 15];
 }
 
+/* Characters that take no cell, or turn the direction of what follows: a text with them would look like another one. */
+static const struct {
+    uint32_t first, last;
+} HIDDEN[] = {{0xAD, 0xAD}, {0x34F, 0x34F}, {0x600, 0x605}, {0x61C, 0x61C}, {0x6DD, 0x6DD}, {0x70F, 0x70F}, {0x115F, 0x1160},
+    {0x17B4, 0x17B5}, {0x180B, 0x180F}, {0x200B, 0x200F}, {0x2028, 0x202E}, {0x2060, 0x206F}, {0x3164, 0x3164}, {0xFEFF, 0xFEFF},
+    {0xFFA0, 0xFFA0}, {0xFFF9, 0xFFFB}, {0x110BD, 0x110BD}, {0x1BCA0, 0x1BCA3}, {0x1D173, 0x1D17A}, {0xE0000, 0xE0FFF}};
+
+static bool is_hidden(wchar_t wide)
+{
+    for (size_t i = 0; i < sizeof HIDDEN / sizeof *HIDDEN; i++) {
+        if ((uint32_t)wide >= HIDDEN[i].first && (uint32_t)wide <= HIDDEN[i].last)
+            return true;
+    }
+    return false;
+}
+
+/* By its number, as \u202E or \U000E0001. */
+static void show_hidden(struct glyph *glyph, size_t taken, wchar_t wide)
+{
+    glyph->is_control = true;
+    glyph->bytes = taken;
+    size_t room = sizeof glyph->shown / sizeof *glyph->shown;
+    glyph->cells = (size_t)swprintf(glyph->shown, room, wide > 0xFFFF ? L"\\U%08X" : L"\\u%04X", (unsigned)wide);
+}
+
 /* The character at a place, and its bytes: 0 where none is, or where the byte at `split` is inside of it. */
 static size_t decode(const uint8_t *bytes, size_t n, size_t at, size_t split, wchar_t *wide)
 {
@@ -38,6 +63,10 @@ static bool show_wide(struct glyph *glyph, const uint8_t *bytes, size_t n, size_
     wchar_t wide;
     size_t taken = decode(bytes, n, at, split, &wide);
     int cells = taken > 0 ? wcwidth(wide) : 0;
+    if (taken > 0 && is_hidden(wide)) {
+        show_hidden(glyph, taken, wide);
+        return true;
+    }
     if (cells <= 0)
         return false;
     glyph->bytes = taken;
@@ -51,7 +80,7 @@ static void add_marks(struct glyph *glyph, const uint8_t *bytes, size_t n, size_
     for (size_t i = 1; i <= MARKS && at + glyph->bytes < n && at + glyph->bytes != split && bytes[at + glyph->bytes] >= 128; i++) {
         wchar_t wide;
         size_t taken = decode(bytes, n, at + glyph->bytes, split, &wide);
-        if (taken == 0 || wcwidth(wide) != 0 || !iswprint((wint_t)wide))
+        if (taken == 0 || wcwidth(wide) != 0 || !iswprint((wint_t)wide) || is_hidden(wide))
             return;
         glyph->shown[i] = wide;
         glyph->bytes += taken;
@@ -74,7 +103,8 @@ struct glyph glyph_at(const uint8_t *bytes, size_t n, size_t at, size_t split, s
         glyph.shown[0] = byte;
         add_marks(&glyph, bytes, n, at, split);
     } else if (show_wide(&glyph, bytes, n, at, split)) {
-        add_marks(&glyph, bytes, n, at, split);
+        if (!glyph.is_control)
+            add_marks(&glyph, bytes, n, at, split);
     } else {
         show_number(&glyph, byte);
     }

@@ -1,4 +1,5 @@
-/* The keys, and what the command does that is being typed: its row of docs/REFERENCE.md, which frontends/screen/reference has made a table. */
+/* The keys, and what the command does that is being typed: its row of docs/REFERENCE.md, which frontends/screen/reference has made a table.
+   Where nothing is typed, all commands. */
 #include "screen.h"
 #include <curses.h>
 #include <stdio.h>
@@ -10,19 +11,19 @@ static const struct {
 #include "reference.h"
 };
 
-static const char *const KEYS[] = {
-    "ESC ESC     runs the string, and keeps it",
-    "DEL         takes back a byte; Ctrl-U a line; Ctrl-C the string",
-    "Ctrl-V      the next key is a byte as it is",
-    "Ctrl-D      leaves with nothing written; EX writes and exits; F3 writes and goes on",
-    "Ctrl-Z      stops the program; Ctrl-\\ ends it",
-    "Where nothing is typed:",
-    "Up, Down    undo, redo ({ and } with ESC ESC as well)",
-    "Left, Right the steps of the last string; Home, End, Page Up, Page Down",
-    "Enter there stays at the step",
-    "Shift-Up, Shift-Down, the wheel, Ctrl-Page Up, Ctrl-Page Down  scroll",
-    "F1          this help, until the next key",
-};
+#include "screen-commands.h"
+
+/* Where the names begin in a row of the list, and what they do. */
+enum { TASK = 10, DOES = 30 };
+enum { COMMANDS_LISTED = sizeof COMMANDS_BY_TASK / sizeof *COMMANDS_BY_TASK, KEYS_LISTED = sizeof KEYS / sizeof *KEYS };
+
+/* Whether more is to be shown than there was room for. */
+static bool has_more;
+
+bool help_has_more(void)
+{
+    return has_more;
+}
 
 static uint8_t capital(uint8_t byte)
 {
@@ -55,20 +56,22 @@ static void letters_at(const uint8_t *text, size_t n, size_t at, char *letters)
     letters[count] = '\0';
 }
 
-/* Draws the rows of the table that have these letters, from a row of the screen on. The row behind them. */
+/* How many rows of the screen those of the table take that have these letters; draws them from a row on, where that isn't 0. */
 static int draw_rows(const char *letters, int top)
 {
     char row[400];
+    int taken = 0;
     for (size_t i = 0; i < sizeof ROWS / sizeof *ROWS; i++) {
         if (strcmp(ROWS[i].letters, letters) != 0)
             continue;
         (void)snprintf(row, sizeof row, "%s  %s", ROWS[i].spelling, ROWS[i].does);
         (void)attr_set(A_BOLD, 0, NULL);
-        (void)mvaddstr(top, 0, row);
+        if (top > 0)
+            (void)mvaddstr(top + taken, 0, row);
         (void)attr_set(0, 0, NULL);
-        top += 1 + (int)((strlen(row) - 1) / (size_t)COLS);
+        taken += 1 + (int)((strlen(row) - 1) / (size_t)COLS);
     }
-    return top;
+    return taken;
 }
 
 /* The token that a string ends with, or the one that comes next of the steps. */
@@ -87,19 +90,43 @@ static size_t token_of_help(const struct screen *screen, const uint8_t *text, si
     return last;
 }
 
+static void draw_listed(const struct listed *listed, int row)
+{
+    (void)attr_set(A_BOLD, 0, NULL);
+    (void)mvaddnstr(row, 0, listed->task, COLS);
+    (void)mvaddnstr(row, TASK, listed->name, COLS - TASK);
+    (void)attr_set(0, 0, NULL);
+    int behind = TASK + (int)strlen(listed->name) + 2, column = behind > DOES ? behind : DOES;
+    if (column < COLS)
+        (void)mvaddnstr(row, column, listed->does, COLS - column);
+}
+
+/* Some of the list, from a place on: the commands, and behind them the keys. */
+static void draw_list(size_t first, int top, int rows)
+{
+    size_t all = COMMANDS_LISTED + KEYS_LISTED;
+    for (size_t i = first; i < all && i - first < (size_t)rows; i++)
+        draw_listed(i < COMMANDS_LISTED ? &COMMANDS_BY_TASK[i] : &KEYS[i - COMMANDS_LISTED], top + (int)(i - first));
+    has_more = first + (size_t)rows < all;
+}
+
 void draw_help(const struct screen *screen, int top, int rows)
 {
     char letters[4];
     size_t n;
     const uint8_t *text = screen_line(screen, &n);
-    size_t at = token_of_help(screen, text, n);
-    int next = top;
+    size_t at = token_of_help(screen, text, n), first = n > 0 ? COMMANDS_LISTED : 0;
+    bool is_first = screen->help_page == 0;
+    int taken = 0;
     if (at < n) {
         letters_at(text, n, at, letters);
-        next = draw_rows(letters, top);
-        if (next == top && letters[0] == ':')
-            next = draw_rows(letters + 1, top);
+        taken = draw_rows(letters, is_first ? top : 0);
+        if (taken == 0 && letters[0] == ':')
+            taken = draw_rows(letters + 1, is_first ? top : 0);
     }
-    for (size_t i = 0; i < sizeof KEYS / sizeof *KEYS && next < top + rows; i++)
-        (void)mvaddnstr(next++, 0, KEYS[i], COLS);
+    taken = taken < rows ? taken : rows;
+    if (is_first)
+        draw_list(first, top + taken, rows - taken);
+    else
+        draw_list(first + screen->help_page * (size_t)rows - (size_t)taken, top, rows);
 }

@@ -8,16 +8,19 @@
 enum { MOMENT = 6 };
 static const struct timespec SOON = {.tv_nsec = MOMENT * 1000000}, AT_ONCE;
 
-enum sequence { OTHER, UP, DOWN, LEFT, RIGHT, HOME, END, PAGE_UP, PAGE_DOWN, HELP, SAVE, ROW_UP, ROW_DOWN, SCREEN_UP,
-    SCREEN_DOWN, WHEEL_UP, WHEEL_DOWN, MOUSE };
+enum sequence {
+    OTHER, UP, DOWN, LEFT, RIGHT, HOME, END, PAGE_UP, PAGE_DOWN, HELP, PANE, SAVE, LINE_NUMBERS, NEXT_CHANGE, CHANGE_BEFORE, ROW_UP, ROW_DOWN,
+    SCREEN_UP, SCREEN_DOWN, WHEEL_UP, WHEEL_DOWN, MOUSE
+};
 
 /* What keys send, behind ESC [ or ESC O. */
 static const struct {
     const char *sent;
     enum sequence key;
 } SEQUENCES[] = {{"A", UP}, {"B", DOWN}, {"C", RIGHT}, {"D", LEFT}, {"H", HOME}, {"1~", HOME}, {"7~", HOME}, {"F", END}, {"4~", END},
-    {"8~", END}, {"5~", PAGE_UP}, {"6~", PAGE_DOWN}, {"P", HELP}, {"11~", HELP}, {"[A", HELP}, {"R", SAVE}, {"13~", SAVE},
-    {"[C", SAVE}, {"1;2A", ROW_UP}, {"1;2B", ROW_DOWN}, {"a", ROW_UP}, {"b", ROW_DOWN}, {"5;5~", SCREEN_UP}, {"6;5~", SCREEN_DOWN}};
+    {"8~", END}, {"5~", PAGE_UP}, {"6~", PAGE_DOWN}, {"P", HELP}, {"11~", HELP}, {"[A", HELP}, {"Q", PANE}, {"12~", PANE}, {"[B", PANE},
+    {"R", SAVE}, {"13~", SAVE}, {"[C", SAVE}, {"15~", NEXT_CHANGE}, {"[E", NEXT_CHANGE}, {"17~", CHANGE_BEFORE}, {"18~", LINE_NUMBERS},
+    {"1;2A", ROW_UP}, {"1;2B", ROW_DOWN}, {"a", ROW_UP}, {"b", ROW_DOWN}, {"5;5~", SCREEN_UP}, {"6;5~", SCREEN_DOWN}};
 
 /* What a mouse tells: behind ESC [ < the number of a button, whose bits 4, 8 and 16 are keys that are held, and then the place. */
 static enum sequence mouse(const uint8_t *bytes)
@@ -118,24 +121,36 @@ static enum fate edit(struct screen *screen, uint8_t key)
     }
 }
 
-/* What every key does first: what was said or shown for the one before is gone. True where that was all. */
+/* What every key does first: what was said or shown for the one before is gone. True where that was the help. */
 static bool begin_key(struct screen *screen)
 {
     bool was_helped = screen->is_helped;
     screen->message[0] = '\0';
     screen->is_helped = screen->has_asked = screen->has_warned = screen->is_scrolled = false;
+    screen->seeks = STAYS;
     return was_helped;
+}
+
+/* Whether a key only leaves the help or the steps; every other one does besides what it does. */
+static bool is_for_leaving(uint8_t key)
+{
+    return key == ESCAPE || key == RETURN || key == DELETE || key == CONTROL('C') || key == tty_erase_key();
 }
 
 static enum fate press(void *to, uint8_t key)
 {
     struct screen *screen = to;
     bool has_asked = screen->has_asked, has_warned = screen->has_warned;
-    if (begin_key(screen))
+    if (begin_key(screen) && is_for_leaving(key))
         return GOES_ON;
+    if (screen->is_stepping && is_for_finding(key)) {
+        screen_find(screen, key);
+        return GOES_ON;
+    }
     if (screen->is_stepping) {
         screen_end_steps(screen, key == RETURN);
-        return GOES_ON;
+        if (is_for_leaving(key))
+            return GOES_ON;
     }
     if (screen->is_quoted) {
         screen->is_quoted = false;
@@ -182,6 +197,37 @@ static int rows_of(enum sequence key)
     }
 }
 
+/* Shows the same again: in another size, or in another window. */
+static void show_again(struct screen *screen)
+{
+    if (screen->is_stepping)
+        screen_step(screen, screen->step);
+    else
+        screen->is_other = true;
+}
+
+/* Goes to the next change of the string that is out of the window, or to the one before. */
+static void seek_change(struct screen *screen, enum sequence key)
+{
+    size_t from, to;
+    window_edges(&from, &to);
+    screen->seeks = key == NEXT_CHANGE ? TO_NEXT_CHANGE : TO_CHANGE_BEFORE;
+    screen->edge = key == NEXT_CHANGE ? to : from;
+}
+
+/* Whether a key changes nothing but what is seen: then it is shown again. */
+static bool changes_look(struct screen *screen, enum sequence key)
+{
+    switch (key) {
+    case PANE: turn_pane(); break;
+    case LINE_NUMBERS: turn_numbers(); break;
+    case NEXT_CHANGE: case CHANGE_BEFORE: seek_change(screen, key); break;
+    default: return false;
+    }
+    show_again(screen);
+    return true;
+}
+
 static enum fate press_sequence(void *to, const uint8_t *bytes, size_t n)
 {
     struct screen *screen = to;
@@ -189,10 +235,13 @@ static enum fate press_sequence(void *to, const uint8_t *bytes, size_t n)
     bool is_empty = screen->line.count == 0 && !screen->is_naming, was_scrolled = screen->is_scrolled;
     if (key == MOUSE)
         return GOES_ON;
-    if (begin_key(screen) && key == HELP)
+    bool was_helped = begin_key(screen);
+    if (key == HELP) {
+        screen->is_helped = !was_helped || help_has_more();
+        screen->help_page = was_helped ? screen->help_page + 1 : 0;
         return GOES_ON;
-    screen->is_helped = key == HELP;
-    if (key == HELP)
+    }
+    if (changes_look(screen, key))
         return GOES_ON;
     if (rows_of(key) != 0) {
         screen->scroll = was_scrolled ? screen->scroll : 0;
@@ -283,6 +332,8 @@ static void take_view(struct screen *screen)
         screen->top = screen->preview.seen->from;
         screen->scroll = 0;
     }
+    if (screen->is_previewed && screen->preview.seen->is_missed && !screen->preview.is_busy)
+        (void)ring();
 }
 
 /* Begins a preview of what is typed now, and waits a little for it, so that both are drawn at once. */
@@ -307,10 +358,7 @@ static void resume(struct screen *screen)
     tty_resume();
     screen->keys.is_pasted = false;
     draw_anew();
-    if (screen->is_stepping)
-        screen_step(screen, screen->step);
-    else
-        screen->is_other = true;
+    show_again(screen);
 }
 
 /* Waits for what comes next. While nothing comes after a change, the lines of the text are counted, and a copy is made for the next key. */

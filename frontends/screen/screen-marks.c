@@ -87,12 +87,31 @@ static size_t narrow(struct same *same, const struct splice *splice, size_t leng
     return length - splice->gone + splice->came;
 }
 
+/* What change k of a string is for bytes of the text. False where it is for none. */
+static bool splice_of(const struct teco *t, size_t string, size_t k, struct splice *splice)
+{
+    struct teco_splice told;
+    if (teco_splice(t, string, k, &told) != 0 || (told.gone == 0 && told.came == 0))
+        return false;
+    *splice = (struct splice){.at = told.at, .gone = told.gone, .came = told.came, .is_marked = !is_of_page(t, string, k)};
+    return true;
+}
+
+static void count_change(struct view *view, const struct splice *splice)
+{
+    view->changes++;
+    view->came += splice->gone;
+    view->gone += splice->came;
+}
+
 struct same mark_changes(const struct teco *t, struct view *view)
 {
     static struct pieces pieces;
+    struct splice splice;
     size_t strings, changes, length = view->length;
     struct same same = {length, length};
     memset(view->marks, 0, view->count + 1);
+    view->changes = view->came = view->gone = 0;
     pieces = (struct pieces){.view = view, .count = 1};
     pieces.at[0] = (struct piece){0, view->count + (view->from + view->count == view->length), view->from};
     if (teco_cursor(t, &strings) != 0 || strings == 0 || teco_changes(t, strings - 1, &changes) != 0)
@@ -100,14 +119,66 @@ struct same mark_changes(const struct teco *t, struct view *view)
     if (changes > MOST_CHANGES)
         return (struct same){0};
     for (size_t k = changes; k-- > 0;) {
-        struct teco_splice told;
-        if (teco_splice(t, strings - 1, k, &told) != 0 || (told.gone == 0 && told.came == 0))
+        if (!splice_of(t, strings - 1, k, &splice))
             continue;
-        struct splice splice = {.at = told.at, .gone = told.gone, .came = told.came};
         length = narrow(&same, &splice, length);
-        splice.is_marked = !is_of_page(t, strings - 1, k);
+        if (splice.is_marked)
+            count_change(view, &splice);
         for (size_t i = pieces.count; i-- > 0 && follow_piece(&pieces, i, &splice);)
             continue;
     }
     return same;
+}
+
+/* Follows the part of the text behind the edge, up to the first change that is known of it, over the undo of a splice. Whether it lies in
+   there: then the part ends at it. */
+static bool end_part(struct piece *part, const struct splice *splice)
+{
+    size_t end = part->stood + part->count, gone_to = splice->at + splice->gone;
+    if (splice->at > end || (splice->at == end && splice->gone > 0))
+        return false;
+    if (gone_to < part->stood || (gone_to == part->stood && splice->gone > 0)) {
+        part->stood = part->stood - splice->gone + splice->came;
+        return false;
+    }
+    part->count = splice->at > part->stood ? splice->at - part->stood : 0;
+    part->stood += splice->at < part->stood ? splice->at - part->stood : 0;
+    return true;
+}
+
+/* The same of the part before the edge, which begins behind the last change that is known of it. */
+static bool begin_part(struct piece *part, const struct splice *splice)
+{
+    size_t end = part->stood + part->count, gone_to = splice->at + splice->gone;
+    if (splice->at >= end)
+        return false;
+    if (gone_to < part->stood || (gone_to == part->stood && splice->gone > 0)) {
+        part->stood = part->stood - splice->gone + splice->came;
+        return false;
+    }
+    size_t last = gone_to < end ? gone_to : end;
+    part->shown += last - part->stood;
+    part->count = end - last;
+    part->stood = splice->at + splice->came;
+    return true;
+}
+
+size_t change_beyond(const struct teco *t, size_t length, size_t edge, enum seeks seeks)
+{
+    bool is_next = seeks == TO_NEXT_CHANGE;
+    struct piece part = {0, edge, 0};
+    struct splice splice;
+    size_t strings, changes, found = TECO_NOWHERE;
+    if (is_next)
+        part = (struct piece){edge, length - edge, edge};
+    if (teco_cursor(t, &strings) != 0 || strings == 0 || teco_changes(t, strings - 1, &changes) != 0 || changes > MOST_CHANGES)
+        return found;
+    for (size_t k = changes; k-- > 0;) {
+        if (!splice_of(t, strings - 1, k, &splice))
+            continue;
+        bool is_there = is_next ? end_part(&part, &splice) : begin_part(&part, &splice);
+        if (is_there && splice.is_marked)
+            found = is_next ? part.shown + part.count : part.shown - (splice.gone > 0);
+    }
+    return found;
 }

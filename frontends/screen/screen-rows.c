@@ -111,6 +111,21 @@ void draw_typed(const struct view *view, int top, int rows)
     }
 }
 
+/* How much a string changes the text: how often, where that is not once, and how many bytes it takes out and puts in. */
+static void describe_changes(const struct view *view, char *text, size_t size)
+{
+    char often[40] = "", gone[32] = "", came[32] = "";
+    if (view->subject != OF_STRING || view->changes == 0 || size == 0)
+        return;
+    if (view->changes > 1)
+        (void)snprintf(often, sizeof often, "%zu changes, ", view->changes);
+    if (view->gone > 0)
+        (void)snprintf(gone, sizeof gone, "-%zu%s", view->gone, view->came > 0 ? " " : "");
+    if (view->came > 0)
+        (void)snprintf(came, sizeof came, "+%zu", view->came);
+    (void)snprintf(text, size, ": %s%s%s byte%s", often, gone, came, view->gone + view->came == 1 ? "" : "s");
+}
+
 /* How the string ended. */
 static void describe_end(const struct view *view, bool is_preview, char *text, size_t size)
 {
@@ -133,6 +148,9 @@ static void describe_end(const struct view *view, bool is_preview, char *text, s
         (void)snprintf(text, size, "?%s: %s", code_letters(told->code), told_sentence(told));
     char macros[48];
     size_t used = strlen(text);
+    if (told->code == 0 && !view->is_done)
+        describe_changes(view, text + used, size - used);
+    used = strlen(text);
     told_macros(told, macros, sizeof macros);
     if (told->calls > 0 && used < size)
         (void)snprintf(text + used, size - used, ", inside %s", macros);
@@ -145,6 +163,8 @@ static void describe(const struct screen *screen, char *text, size_t size)
     (void)screen_line(screen, &n);
     if (screen->message[0] != '\0')
         (void)snprintf(text, size, "%s", screen->message);
+    else if (screen->is_helped)
+        (void)snprintf(text, size, help_has_more() ? "F1 goes on, ESC leaves the help" : "F1 or ESC leaves the help");
     else if (screen->is_stepping)
         (void)snprintf(text, size, "after step %llu of %llu  (Left Right Home End; Enter stays here)", (unsigned long long)screen->step,
             (unsigned long long)screen->steps);

@@ -17,9 +17,11 @@ const uint8_t *screen_line(const struct screen *screen, size_t *n)
     return screen->line.at;
 }
 
-static struct window window_of(struct screen *screen)
+/* The window that is to be looked at next. */
+static struct window window_of(const struct screen *screen)
 {
-    struct window window = {.top = screen->top, .is_scrolled = screen->is_scrolled, .scroll = screen->scroll};
+    struct window window = {.top = screen->top, .is_free = screen->is_scrolled || screen->seeks != STAYS, .is_scrolled = screen->is_scrolled,
+        .scroll = screen->scroll, .seeks = screen->seeks, .edge = screen->edge};
     draw_size(&window);
     return window;
 }
@@ -33,6 +35,8 @@ void screen_look(struct screen *screen)
     screen->top = screen->still.from;
     screen->scroll = 0;
     screen->is_previewed = false;
+    if (screen->still.is_missed)
+        (void)tty_say("\a");
 }
 
 static void say(struct screen *screen, const char *text)
@@ -124,6 +128,7 @@ enum fate screen_run(struct screen *screen)
     screen->still.told = told;
     screen->still.tail = told.made < TAIL ? told.made : TAIL;
     memcpy(screen->still.typed, screen->work.room + told.made - screen->still.tail, screen->still.tail);
+    note_printed(screen->work.room, told.made);
     screen->line.count = 0;
     if (teco_done(&screen->work.session) != 1) {
         end_change(screen);

@@ -15,6 +15,12 @@ enum { MEMORY = 1 << 28, LAST_SECONDS = 5 };
 static struct view view;
 static uint8_t closed[LONGEST + 2];
 
+/* The text that is open, if it is that of a search. */
+static struct {
+    const uint8_t *text;
+    size_t n;
+} search;
+
 double since(const struct timespec *time)
 {
     struct timespec now;
@@ -42,6 +48,7 @@ static void run_open(struct work *work, const uint8_t *text, size_t n, uint64_t 
     if (closing.closed == 0 && closing.left_out == TECO_NOWHERE)
         return;
     (void)teco_undo(&work->session);
+    search.text = search_text(closed, closing.n, told->at, &search.n);
     run(work, closed, closing.n, limit);
     view.closed = closing.closed;
     view.is_search_alone = closing.left_out != TECO_NOWHERE;
@@ -72,6 +79,7 @@ static void begin_view(const struct request *request)
     view.closed = view.tail = 0;
     view.is_search_alone = view.goes_on = view.is_broken_off = false;
     view.same = (struct same){SIZE_MAX, SIZE_MAX};
+    search.n = 0;
 }
 
 /* Takes the string back, if it was begun. */
@@ -110,6 +118,8 @@ static void try_string(struct work *work, const struct request *request, const u
         view.goes_on = view.told.code == TECO_LIM && most < work->options->limit;
         if (!view.goes_on || since(&begun) > SOON) {
             look(&work->session, &view, &request->window);
+            if (search.n > 0)
+                mark_hits(&view, &request->window, search.text, search.n, teco_either_case(&work->session) == 1);
             preview_tell(&view);
         }
         take_back(work);

@@ -7,54 +7,136 @@
 /* How a byte of the window is marked: the pointer is shown on the byte after it, reversed. */
 static unsigned long attributes_of(uint8_t marks, bool is_pointer)
 {
-    return (is_pointer ? A_REVERSE : 0) | (marks & MARK_CAME ? A_BOLD : 0) | (marks & MARK_GONE_BEFORE ? A_UNDERLINE : 0);
+    unsigned long hit = marks & MARK_HIT && !is_in_color() ? A_BOLD | A_UNDERLINE : 0;
+    return hit | (is_pointer ? A_REVERSE : 0) | (marks & MARK_CAME ? A_BOLD : 0) | (marks & MARK_GONE_BEFORE ? A_UNDERLINE : 0);
 }
 
 static short pair_of(uint8_t marks, const struct glyph *glyph)
 {
-    return marks & MARK_CAME ? NEW : marks & MARK_GONE_BEFORE ? OLD : glyph->is_control ? CONTROLS : PLAIN;
+    return marks & MARK_HIT ? HITS : marks & MARK_CAME ? NEW : marks & MARK_GONE_BEFORE ? OLD : glyph->is_control ? CONTROLS : PLAIN;
 }
 
-/* The end of the text, where it is in the window. */
+/* The end of the text, where it is in the window: a sign that no text is shown by. */
 static void draw_end_of_text(const struct view *view, int row, int column, bool is_pointer)
 {
-    static const struct glyph BLANK_CELL = {.bytes = 1, .cells = 1, .shown = L" "}, END = {.bytes = 1, .cells = 1, .shown = L"~"};
+    static const struct glyph BLANK_CELL = {.bytes = 1, .cells = 1, .shown = L" "};
     uint8_t marks = view->marks[view->count];
     if (is_pointer || marks & MARK_GONE_BEFORE)
         put_glyph(row, column, &BLANK_CELL, attributes_of(marks, is_pointer), pair_of(marks, &BLANK_CELL));
     else if (view->from + view->count == view->length)
-        put_glyph(row, column, &END, A_DIM, PLAIN);
+        (void)mvaddch(row, column, ACS_DIAMOND | A_DIM);
 }
 
 /* The row of the text with which a window of so many rows begins, so that the pointer is in it. */
 static size_t first_row(const struct view *view, size_t rows, size_t columns)
 {
-    if (view->pointer < view->from || view->is_scrolled)
+    if (view->pointer < view->from || view->is_free)
         return 0;
     size_t stands = row_of_pointer(view, SHOWN, columns);
     return stands < rows || stands == SHOWN ? 0 : stands - (rows - 1);
 }
 
-void draw_window(const struct view *view, int top, int rows, int columns)
+/* The place of the first byte that was drawn last, and that behind the last one. */
+static size_t drawn_from, drawn_to;
+
+void window_edges(size_t *from, size_t *to)
 {
-    size_t pointer = view->pointer - view->from, at = 0;
-    size_t first = first_row(view, (size_t)rows, (size_t)columns), end = first + (size_t)rows;
-    struct walk walk = {.columns = (size_t)columns};
-    while (walk.row < end && at < view->count) {
+    *from = drawn_from;
+    *to = drawn_to;
+}
+
+/* Whether lines have their numbers, and the cells that these took last. */
+static bool has_numbers;
+static int cells_of_numbers;
+
+void turn_numbers(void)
+{
+    has_numbers = !has_numbers;
+}
+
+/* Room for the text: all rows but the title, the typed text, the string and the state, and all columns but that of the marks of wrapped rows,
+   which is that of the line before a pane. */
+void draw_size(struct window *window)
+{
+    int columns = (has_pane() ? COLS - STRIP - 1 : COLS - 1) - (has_numbers ? cells_of_numbers : 0);
+    window->rows = LINES > 4 ? (size_t)LINES - 3 : 1;
+    window->columns = columns > 1 ? (size_t)columns : 1;
+    window->has_numbers = has_numbers;
+}
+
+/* The window while it is drawn: where it is on the screen, and which rows of the text it has. */
+struct frame {
+    int top, left, right;
+    size_t first, end;
+};
+
+/* The number of a line, in its first row. */
+static void draw_number(const struct frame *frame, size_t row, size_t line)
+{
+    if (frame->left == 0 || row < frame->first || row >= frame->end)
+        return;
+    (void)attr_set(A_DIM, 0, NULL);
+    (void)mvprintw(frame->top + (int)(row - frame->first), 0, "%*zu", frame->left - 1, line);
+    (void)attr_set(0, 0, NULL);
+}
+
+/* The mark of a row that goes on in the next one. */
+static void draw_wrap(const struct frame *frame, size_t row)
+{
+    static const struct glyph MARK = {.bytes = 1, .cells = 1, .shown = L"\\"};
+    if (row >= frame->first && row < frame->end)
+        put_glyph(frame->top + (int)(row - frame->first), frame->right, &MARK, A_BOLD, BLOCKS);
+}
+
+static struct frame frame_of(const struct view *view, int top, int rows)
+{
+    struct frame frame = {.top = top, .right = has_pane() ? COLS - STRIP - 1 : COLS - 1};
+    if (view->top_line > 0)
+        frame.left = cells_of_numbers = snprintf(NULL, 0, "%4zu ", view->top_line + (size_t)rows);
+    frame.first = first_row(view, (size_t)rows, (size_t)(frame.right - frame.left));
+    frame.end = frame.first + (size_t)rows;
+    return frame;
+}
+
+/* Draws a character where the walk has come to, if it is in the window and fits there. */
+static void draw_character(const struct frame *frame, const struct walk *walk, const struct view *view, size_t at, const struct glyph *glyph)
+{
+    bool is_pointer = view->from + at == view->pointer;
+    if (walk->row >= frame->first && walk->row < frame->end && walk->column + glyph->cells <= walk->columns)
+        put_glyph(frame->top + (int)(walk->row - frame->first), frame->left + (int)walk->column, glyph,
+            attributes_of(view->marks[at], is_pointer), pair_of(view->marks[at], glyph));
+}
+
+void draw_window(const struct view *view, int top, int rows)
+{
+    struct frame frame = frame_of(view, top, rows);
+    struct walk walk = {.columns = (size_t)(frame.right - frame.left)};
+    size_t at = 0, line = view->top_line, pointer = view->pointer - view->from;
+    drawn_from = view->from;
+    draw_number(&frame, 0, line);
+    while (walk.row < frame.end && at < view->count) {
         struct glyph glyph = glyph_at(view->bytes, view->count, at, pointer, walk.column);
+        size_t row = walk.row;
         walk_to(&walk, &glyph);
-        if (walk.row >= end)
-            return;
-        if (walk.row >= first && walk.column + glyph.cells <= (size_t)columns)
-            put_glyph(top + (int)(walk.row - first), (int)walk.column, &glyph, attributes_of(view->marks[at], at == pointer),
-                pair_of(view->marks[at], &glyph));
+        if (walk.row > row && !glyph.is_line_end)
+            draw_wrap(&frame, row);
+        if (walk.row >= frame.end)
+            break;
+        draw_character(&frame, &walk, view, at, &glyph);
+        drawn_from = walk.row < frame.first ? view->from + at + glyph.bytes : drawn_from;
         walk_behind(&walk, &glyph);
+        line += view->bytes[at] >= LINE_FEED && view->bytes[at] < RETURN;
         at += glyph.bytes;
+        if (glyph.is_line_end)
+            draw_number(&frame, walk.row, line);
     }
-    if (walk.column >= (size_t)columns)
-        walk = (struct walk){.row = walk.row + 1, .columns = (size_t)columns};
-    if (walk.row >= first && walk.row < end && at == view->count)
-        draw_end_of_text(view, top + (int)(walk.row - first), (int)walk.column, at == pointer);
+    drawn_to = view->from + at;
+    if (walk.column >= walk.columns) {
+        draw_wrap(&frame, walk.row);
+        walk = (struct walk){.row = walk.row + 1, .columns = walk.columns};
+    }
+    if (walk.row >= frame.first && walk.row < frame.end && at == view->count)
+        draw_end_of_text(view, top + (int)(walk.row - frame.first), frame.left + (int)walk.column, at == pointer);
 }
 
 /* A string that was run: its number, its text, and how it ended. */
@@ -84,8 +166,6 @@ void draw_strip(const struct screen *screen, int top, int rows)
     bool is_typing = screen->line.count > 0 && !screen->is_stepping && !screen->is_naming;
     size_t place = journal->cursor, shown = journal->count + is_typing;
     size_t first = place + 2 > (size_t)rows ? place + 2 - (size_t)rows : 0;
-    for (int row = 0; row < rows; row++)
-        (void)mvaddch(top + row, left - 1, ACS_VLINE);
     for (size_t i = first; i < shown && i - first < (size_t)rows; i++) {
         int row = top + (int)(i - first);
         if (is_typing && i == place) {

@@ -2,11 +2,12 @@
  * screen.h - the parts of teco-screen
  *
  * teco-screen.c has the program. screen-keys.c waits for keys and previews, and says what keys do; screen-strings.c does what a string
- * asks, undoes, steps and writes. screen-preview.c has the copy of the process in which a string is tried while it is typed, and
- * screen-try.c what the copy does. screen-close.c closes a text that is open, and screen-token.c reads tokens. screen-look.c looks at a
- * session, screen-scroll.c tells where a window begins that is scrolled, screen-marks.c tells which bytes a string put in, screen-lines.c counts lines. screen-draw.c draws the screen,
- * screen-window.c the text and the history, screen-rows.c the rows below them, screen-glyph.c tells how bytes are shown, and
- * screen-help.c what a command does. What teco-term has too comes from terminal.h.
+ * asks, undoes, steps and writes; screen-find.c finds the step that changed something. screen-preview.c has the copy of the process in
+ * which a string is tried while it is typed, and screen-try.c what the copy does. screen-close.c closes a text that is open, and
+ * screen-token.c reads tokens. screen-look.c looks at a session, screen-scroll.c tells where a window begins that is scrolled,
+ * screen-marks.c tells which bytes a string put in, screen-hits.c what a search finds, screen-lines.c counts lines. screen-draw.c draws the
+ * screen, screen-window.c the text, screen-pane.c the pane beside it, screen-rows.c the rows below them, screen-glyph.c tells how bytes are
+ * shown, and screen-help.c what commands and keys do, of which screen-commands.h has a list. What teco-term has too comes from terminal.h.
  */
 #ifndef SCREEN_H
 #define SCREEN_H
@@ -19,17 +20,31 @@ enum { SHOWN = 1 << 16, TAIL = 2048, LONGEST = 1 << 20 };
 enum { CODE_SRH = 22, CODE_UTC = 24 };
 enum { LEAST_ROWS = 6, LEAST_COLUMNS = 20 };
 
-/* Marks of the bytes in a window: it came, some went before it. */
-enum { MARK_CAME = 1, MARK_GONE_BEFORE = 2 };
+/* Marks of the bytes in a window: it came, some went before it, the search that is typed finds it. */
+enum { MARK_CAME = 1, MARK_GONE_BEFORE = 2, MARK_HIT = 4 };
+
+/* Registers, and how many bytes are looked at of the text of one. */
+enum { REGISTERS = 36, SHOWN_OF_REGISTER = 96 };
+extern const char REGISTER_NAMES[REGISTERS + 1];
+struct shown_register {
+    int32_t number;
+    size_t length;
+    uint8_t text[SHOWN_OF_REGISTER];
+};
 
 /* What is shown: the session itself, or what a string, a step of the last one, an undo or a redo would make of it. */
 enum subject { OF_SESSION, OF_STRING, OF_STEP, OF_UNDO, OF_REDO };
 
-/* Where the window begins, and how much fits into it. It follows the pointer, or was scrolled: then it is so many rows below `top`. */
+/* Where the window begins, and how much fits into it. It follows the pointer; or was scrolled, and is so many rows below `top`; or is asked to
+   go to a change. */
 struct window {
     size_t top, rows, columns;
+    bool is_free;            /* it stays, wherever the pointer is */
     bool is_scrolled;
     int scroll;
+    bool has_numbers;        /* its lines have their numbers */
+    enum seeks { STAYS, TO_NEXT_CHANGE, TO_CHANGE_BEFORE } seeks;
+    size_t edge;             /* the change is from this place on, or before it */
 };
 
 /* What is to be tried: a string of n bytes, or a number of steps, undos or redos. */
@@ -55,8 +70,12 @@ struct view {
     bool goes_on;            /* a longer run is under way */
     bool is_broken_off;      /* it took too long */
     bool is_done;            /* an exit has ended the session */
-    bool is_scrolled;        /* the window doesn't follow the pointer */
+    bool is_free;            /* the window is where a person put it */
+    bool is_missed;          /* it was asked to go to a change, and there is none */
     size_t length, pointer, place, output, line;
+    size_t top_line;         /* the number of the window's first line, or 0 where it isn't wanted */
+    size_t changes, came, gone; /* how often the last string changed the text, and how many bytes it put in and took out */
+    struct shown_register registers[REGISTERS];
     struct same same;        /* of the text whose lines were counted */
     size_t from, count;      /* the bytes below are those from a place on */
     size_t tail;             /* the last bytes that were typed */
@@ -116,8 +135,19 @@ void look(const struct teco *t, struct view *view, const struct window *window);
 /* Before a string is undone or cut, and after one is redone: what it changed is no longer as it was. */
 void keep_same(const struct teco *t, struct view *view);
 
-/* Marks what the last string changed in the window, and tells how much it left as it was, or nothing where that takes too long. */
+/* Marks what the last string changed in the window, and counts what it changed in all of the text. Tells how much it left as it was, or
+   nothing where that takes too long; then nothing is counted. */
 struct same mark_changes(const struct teco *t, struct view *view);
+
+/* The place of the first change of the last string that is not before the edge, or of the last one before it. TECO_NOWHERE where there is
+   none. */
+size_t change_beyond(const struct teco *t, size_t length, size_t edge, enum seeks seeks);
+
+/* The text of the search whose token begins at a place and is the last one of a string: where it is, and its size, or 0 where it is none. */
+const uint8_t *search_text(const uint8_t *text, size_t n, size_t at, size_t *size);
+
+/* Marks what a search for a text finds in the window. */
+void mark_hits(struct view *view, const struct window *window, const uint8_t *text, size_t n, bool is_either_case);
 
 /* Line ends of the text of a session, counted once for as long as it stays: lines_count does it, lines_forget drops it, and lines_before
    tells how many are before a place of a text of so many bytes, of which so much is the same. */
@@ -190,6 +220,9 @@ struct screen {
     size_t top;              /* where the window begins, */
     bool is_scrolled;        /* where keys have scrolled it to, and no other key came since, */
     int scroll;              /* and by how many rows more than is shown */
+    size_t help_page;
+    enum seeks seeks;        /* the key that was pressed last goes to a change, */
+    size_t edge;             /* from here on, or before */
     char message[400];
 };
 
@@ -204,6 +237,11 @@ enum fate screen_name(struct screen *screen);
 void screen_undo(struct screen *screen, bool is_redo);
 void screen_step(struct screen *screen, uint64_t to);
 void screen_end_steps(struct screen *screen, bool stays);
+
+/* Whether a key names what the last string may have changed: a register by its letter or digit, or with ! the text. Among the steps it goes
+   back to the one that comes before the last change of that; a capital letter goes on to the next one. */
+bool is_for_finding(uint8_t key);
+void screen_find(struct screen *screen, uint8_t key);
 void screen_try(struct screen *screen);
 void screen_scroll(struct screen *screen, int rows);
 void screen_begin(struct screen *screen, struct request request, const uint8_t *text);
@@ -214,26 +252,36 @@ enum fate screen_converse(struct screen *screen);
 /* Drawing. draw_begin wants the terminal set. */
 bool draw_marks(struct marks *marks);
 bool draw_begin(void);
+bool is_in_color(void);
 void draw_end(void);
 void draw_size(struct window *window);
 void draw(const struct screen *screen);
 void draw_anew(void);
 
 /* The parts of the screen; each is given its first row and how many it has. */
-enum { PLAIN, CONTROLS, NEW, OLD, ERROR, GOOD, NUMBERS, COMMANDS, TEXTS, BLOCKS, PAIRS };
+enum { PLAIN, CONTROLS, NEW, OLD, ERROR, GOOD, NUMBERS, COMMANDS, TEXTS, BLOCKS, HITS, PAIRS };
 enum { STRIP = 26 };
-bool has_strip(void);
 void put_glyph(int row, int column, const struct glyph *glyph, unsigned long attributes, short pair);
 int put_bytes(int row, int column, int end, const uint8_t *bytes, size_t n, unsigned long attributes, short pair);
-void draw_window(const struct view *view, int top, int rows, int columns);
-void draw_strip(const struct screen *screen, int top, int rows);
+void draw_window(const struct view *view, int top, int rows);
+void turn_numbers(void); /* of lines: on, off */
+void window_edges(size_t *from, size_t *to); /* the place of the first byte of the text that was drawn last, and that behind the last one */
+/* The pane beside the text: the history, the registers, what was printed, or nothing, as a key turns it. It needs a wide terminal. */
+void draw_strip(const struct screen *screen, int top, int rows); /* the history */
+bool has_pane(void);
+void turn_pane(void);
+void draw_pane(const struct screen *screen, int top, int rows);
+
+/* Keeps the last bytes that strings have printed. */
+void note_printed(const uint8_t *bytes, size_t n);
 int typed_rows(const struct view *view);
 void draw_typed(const struct view *view, int top, int rows);
 int line_rows(const struct screen *screen);
 void draw_line(const struct screen *screen, int top, int rows);
 void draw_state(const struct screen *screen, int row);
 
-/* The keys, and what the command does that ends the string, as docs/REFERENCE.md says it. */
+/* The keys, and what the command does that ends the string, as docs/REFERENCE.md says it; all commands where nothing is typed. */
 void draw_help(const struct screen *screen, int top, int rows);
+bool help_has_more(void); /* than it had room for when it was drawn last */
 
 #endif

@@ -9,11 +9,13 @@ sys.path.insert(0, str(Path(__file__).parent.parent / "term"))
 from terminal import Screen
 
 KNOWN = r"""tecotest|what the rows know,
-	am, xenl, colors#8, pairs#64, cols#80, lines#24,
+	am, xenl, colors#256, pairs#32767, cols#80, lines#24,
 	clear=\E[H\E[J, cup=\E[%i%p1%d;%p2%dH, el=\E[K, ed=\E[J, bel=^G, cr=\r, smcup=\E[?1049h, rmcup=\E[?1049l,
-	sgr0=\E[m, bold=\E[1m, dim=\E[2m, smul=\E[4m, rmul=\E[24m, rev=\E[7m, setaf=\E[3%p1%dm, setab=\E[4%p1%dm, op=\E[39m,
+	sgr0=\E[m, bold=\E[1m, dim=\E[2m, smul=\E[4m, rmul=\E[24m, rev=\E[7m, setaf=\E[38;5;%p1%dm, setab=\E[48;5;%p1%dm, op=\E[39;49m,
 tecolong|the same with a long beginning,
 	smcup=""" + 31 * r"\E[?1049h" + r""", use=tecotest,
+teco8|the same with eight colors,
+	colors#8, pairs#64, setaf=\E[3%p1%dm, setab=\E[4%p1%dm, use=tecotest,
 tecomono|the same without colors,
 	am, xenl, cols#80, lines#24,
 	clear=\E[H\E[J, cup=\E[%i%p1%d;%p2%dH, el=\E[K, ed=\E[J, bel=^G, cr=\r, smcup=\E[?1049h, rmcup=\E[?1049l,
@@ -21,14 +23,18 @@ tecomono|the same without colors,
 """
 
 
+# The colors of bytes that came, of 256 and of 8.
+CAME = ("28", "5")
+
+
 def describe(folder):
-    """Makes the descriptions of both terminals in a folder, for TERMINFO. It wants tic."""
+    """Makes the descriptions of the terminals in a folder, for TERMINFO. It wants tic."""
     Path(folder, "known").write_text(KNOWN)
     subprocess.run(["tic", "-x", "-o", folder, Path(folder, "known")], check=True, capture_output=True)
 
 
 class FullScreen(Screen):
-    """A cell is a character, and its marks: r reversed, b bold, u underlined, d dim, and the number of its color."""
+    """A cell is a character, and its marks: r reversed, b bold, u underlined, d dim, l on another ground, and the number of its color."""
 
     SEQUENCE = re.compile(rb"\x1b\[(\??)([0-9;]*)([A-Za-z])")
 
@@ -39,6 +45,7 @@ class FullScreen(Screen):
         self.is_other = False
         self.mouse = set()
         self.colors = 0
+        self.used = set()
 
     def resize(self, rows, columns):
         super().resize(rows, columns)
@@ -55,7 +62,7 @@ class FullScreen(Screen):
         if private:
             self.set_mode(numbers + what)
         else:
-            self.obey(what, [int(number) for number in numbers.split(b";") if number])
+            self.obey(what, [int(number) for number in numbers.split(b";") if number] or [0] * (what == b"m"))
         return found.end()
 
     def set_mode(self, what):
@@ -73,8 +80,8 @@ class FullScreen(Screen):
         if what == b"H":
             self.row, self.column = (numbers[0] - 1, numbers[1] - 1) if numbers else (0, 0)
         elif what == b"m":
-            for number in numbers or [0]:
-                self.draw_by(number)
+            while numbers:
+                numbers = numbers[self.draw_by(numbers) :]
         elif what in (b"J", b"K"):
             column = min(self.column, self.columns)
             self.cells[self.row][column:] = [" "] * (self.columns - column)
@@ -89,7 +96,9 @@ class FullScreen(Screen):
             self.cells[at] = [" "] * self.columns
             self.marks[at] = [""] * self.columns
 
-    def draw_by(self, number):
+    def draw_by(self, numbers):
+        """Sets the pen by the first number, or by three of them, and tells how many they were."""
+        number = numbers[0]
         if number == 0:
             self.pen, self.color = set(), ""
         elif number in (1, 2, 4, 7):
@@ -97,10 +106,16 @@ class FullScreen(Screen):
         elif number == 24:
             self.pen.discard("u")
         elif 30 <= number <= 39:
-            self.color = "" if number == 39 else str(number - 30)
+            self.color = "" if number == 39 else str(numbers[2] if number == 38 else number - 30)
             self.colors += number != 39
+            self.used |= {self.color} - {""}
+        elif number == 49:
+            self.pen.discard("l")
+        elif 40 <= number <= 48:
+            self.pen.add("l")
         else:
             raise AssertionError(f"the terminal doesn't know m {number}")
+        return 3 if number in (38, 48) else 1
 
     def character(self, data):
         if data[0] == 8:
@@ -117,17 +132,21 @@ class FullScreen(Screen):
             self.marks[row][at] = "".join(sorted(self.pen)) + self.color
 
     def line(self, number):
-        """A row: `[x]` is reversed, `{x}` bold and green, as bytes that came, and `(x)` underlined, as where some went."""
+        """A row: `[x]` is reversed, `{x}` bold and of the color of bytes that came, `(x)` underlined, as where some went, and `<x>` on another
+        ground, as what a search finds."""
         shown = ""
         for cell, marks in zip(self.cells[number], self.marks[number]):
+            color = marks.lstrip("bdlru")
             if "r" in marks:
                 cell = f"[{cell}]"
-            if "b" in marks and ("2" in marks or self.colors == 0):
+            if "b" in marks and (color in CAME or self.colors == 0):
                 cell = f"{{{cell}}}"
             if "u" in marks and cell:
                 cell = f"({cell})"
+            if "l" in marks and cell:
+                cell = f"<{cell}>"
             shown += cell
-        return shown.replace("}{", "").replace("][", "").replace(")(", "").rstrip()
+        return shown.replace("}{", "").replace("][", "").replace(")(", "").replace("><", "").rstrip()
 
     def plain(self, number):
         return "".join(self.cells[number]).rstrip()
