@@ -10,7 +10,7 @@
 #include <unistd.h>
 
 /* The most that may lie between two reads of what comes together, and the most bytes that are taken as one. */
-const struct timespec TTY_GAP = {.tv_nsec = 10000000};
+const struct timespec TTY_GAP = {.tv_nsec = 10000000}, TTY_PAIR_GAP = {.tv_nsec = 50000000};
 enum { PIECE = 4096, TOGETHER = 1 << 20 };
 
 /* Keys that came while a string ran, and how many of them were taken since; and whether what comes next is pasted. */
@@ -115,9 +115,12 @@ enum event tty_read(struct bytes *together)
 {
     together->count = 0;
     enum event event = tty_wait(-1, NULL);
-    if (event != CAME)
-        return event;
-    event = tty_take(together);
+    return event == CAME ? tty_take_all(together) : event;
+}
+
+enum event tty_take_all(struct bytes *together)
+{
+    enum event event = tty_take(together);
     while (event == CAME && together->count < TOGETHER && tty_wait(-1, &TTY_GAP) == CAME)
         event = tty_take(together);
     return together->count > 0 ? CAME : event;

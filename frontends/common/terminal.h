@@ -2,10 +2,11 @@
  * terminal.h - what the programs for a person at a terminal share: teco-term, and teco-screen of frontends/screen
  *
  * term-options.c reads the line of a program, and says how it ended. term-work.c does what a string asks, over a session; term-journal.c
- * keeps the strings, and leaves them in a file where the program is ended; term-save.c writes what an exit would, and goes on; term-past.c keeps all that were ever run, so that they come back
+ * keeps the strings, and leaves them in a file where the program is ended; term-save.c writes what an exit would, and goes on; term-past.c
+ * keeps all that were ever run, so that they come back
  * as text. term-codes.c has the sentences of the codes. term-file.c reads
  * INPUT and writes the output; term-tty.c sets the terminal, and term-read.c reads it, also while a string runs; term-keys.c tells keys,
- * sequences and pastes apart.
+ * sequences and pastes apart. line-edit.c has the string that is typed, and line-recall.c brings back those before.
  */
 #ifndef TERMINAL_H
 #define TERMINAL_H
@@ -286,8 +287,9 @@ enum event tty_read(struct bytes *together);
 /* Waits for bytes, for another place that can be read, or -1, and at most so long, or for ever where that is null. */
 enum event tty_wait(int other, const struct timespec *most);
 
-/* Reads a piece of what came, behind what there is: CAME, ENDED, FAILED. */
+/* Reads a piece of what came, behind what there is: CAME, ENDED, FAILED. tty_take_all reads all that comes together. */
 enum event tty_take(struct bytes *together);
+enum event tty_take_all(struct bytes *together);
 
 /* Whether the terminal was given back meanwhile or has another size: then a wait comes to RESUMED. tty_resume says that all is about to be
    drawn anew. */
@@ -303,22 +305,83 @@ void tty_unwatch(void);
 /* Whether it has asked so since tty_watch. */
 bool tty_is_broken_off(void);
 
-/* How long bytes may be apart that come together. */
-extern const struct timespec TTY_GAP;
+/* How long bytes may be apart that come together; and those of a sequence, where its ESC alone would make a pair and run a string. */
+extern const struct timespec TTY_GAP, TTY_PAIR_GAP;
 
 /* The size of the terminal, or 24 rows and 80 columns where it isn't known, and the byte of its erase key. */
 void tty_size(size_t *rows, size_t *columns);
 uint8_t tty_erase_key(void);
 
+/* THE STRING THAT IS TYPED */
+
+/* Keys that send a sequence. */
+enum sequence {
+    OTHER, UP, DOWN, LEFT, RIGHT, HOME, END, PAGE_UP, PAGE_DOWN, ERASE, OLDER, NEWER, HELP, PANE, SAVE, LINE_NUMBERS, NEXT_CHANGE, CHANGE_BEFORE,
+    ROW_UP, ROW_DOWN, SCREEN_UP, SCREEN_DOWN, WHEEL_UP, WHEEL_DOWN, MOUSE
+};
+
+/* What is typed: a string, or a name. All zero it is empty. */
+struct line {
+    struct bytes text;
+    size_t cursor;   /* where the next byte goes in */
+    size_t kept;     /* so many bytes at the beginning are as they were when this was last made the length */
+    size_t escape;   /* the place behind the ESC that a key put in, or 0, */
+    struct timespec escaped; /* and when it did */
+    size_t recalled; /* so many strings back is the one that was recalled, or 0 */
+    bool is_quoted;  /* the next key is a byte as it is */
+};
+
+/* What a key comes to: it changed the text or the cursor, or there is nothing that it could do; the pair of ESC is whole, or the name; the
+   text is to be dropped; memory is refused. */
+enum edit { LINE_EDITED, LINE_MOVED, LINE_REFUSED, LINE_RUNS, LINE_NAMED, LINE_DROPPED, LINE_NO_MEMORY };
+
+/* A key that is a byte, in a string or in a name. LINE_RUNS comes with the pair at the end, wherever it was pressed. */
+enum edit line_press(struct line *line, uint8_t key, bool is_name);
+
+/* A key that moves the cursor, or erases what is at it. */
+enum edit line_move(struct line *line, enum sequence key);
+
+/* Bytes that are text, whatever they are. A name gets no line ends. */
+enum edit line_paste(struct line *line, const uint8_t *bytes, size_t n, bool is_name);
+
+/* Puts the string that was typed before the one that was recalled in the place of the text, or the one after it. */
+enum edit line_recall(struct line *line, bool is_older);
+
+/* Puts bytes in at the cursor, or takes some out. False where memory is refused. */
+bool line_insert(struct line *line, const uint8_t *bytes, size_t n);
+void line_cut(struct line *line, size_t from, size_t to);
+
+/* Whether an ESC would make a pair with the one before it: at the end of the text, or elsewhere if that came within half a second. There a
+   person who has seen what an ESC does may press two more. */
+bool line_is_escaped(const struct line *line);
+
+/* The length of the string that a pair of ESC runs: with a pair that was pasted it ends at that, and has its first ESC. */
+size_t line_string(const struct line *line);
+
+/* Once the pair is whole: leaves the first string with its pair, and puts what follows into `rest`. False where memory is refused. */
+bool line_split(struct line *line, struct bytes *rest);
+
+/* Goes on to what followed the string that was run, or drops what is typed: both keep it to be recalled. line_clear doesn't. */
+void line_next(struct line *line, struct bytes *rest);
+void line_drop(struct line *line);
+void line_clear(struct line *line);
+
+/* Where the cell begins that ends before a place, with the marks that combine with it; and where the one ends that begins there. */
+size_t cell_before(const uint8_t *text, size_t at);
+size_t cell_behind(const uint8_t *text, size_t n, size_t at);
+
 /* KEYS */
 
-/* Who takes keys: a key, a sequence that a key has sent, a byte that is pasted, and word that a paste begins. */
+/* Who takes keys: a key, a sequence that a key has sent, bytes that are pasted, and word that a paste begins. */
 struct taker {
     enum fate (*press)(void *to, uint8_t key);
     enum fate (*sequence)(void *to, const uint8_t *bytes, size_t n);
-    enum fate (*paste)(void *to, uint8_t byte);
+    enum fate (*paste)(void *to, const uint8_t *bytes, size_t n);
     void (*begin_paste)(void *to);
 };
+
+/* Which key has sent a sequence. */
+enum sequence sequence_of(const uint8_t *bytes, size_t n);
 
 /* What of a paste has come. */
 struct keys {
@@ -329,8 +392,8 @@ struct keys {
 /* Follows the marks of pastes over the byte that comes next, which is taken later. Whether it is a key, and not pasted. */
 bool keys_follow(struct keys *keys, uint8_t byte);
 
-/* Gives what came together to the taker. Where all of it is sequences of keys it gets these, and else all is keys and pastes. */
-enum fate keys_receive(struct keys *keys, const struct bytes *together, const struct taker *taker, void *to);
+/* Gives what came together to the taker, who puts it into this line: sequences as far as they can be told from text, keys and pastes. */
+enum fate keys_receive(struct keys *keys, struct line *line, const struct bytes *together, const struct taker *taker, void *to);
 
 /* Whether more may come of what begins as these bytes do: of a sequence or of a mark of a paste. */
 bool keys_are_open(const struct keys *keys, const struct bytes *together);

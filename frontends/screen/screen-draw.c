@@ -14,29 +14,39 @@ extern char *tigetstr(const char *name);
 extern struct term *set_curterm(struct term *terminal);
 extern int del_curterm(struct term *terminal);
 
-enum { MOST_LINE = 4, MOST_TYPED = 4, CAPABILITIES = 256, MODES = 32 };
+enum { MOST_LINE = 4, MOST_TYPED = 4, CAPABILITIES = 4096 };
 
-/* Adds what the terminal's description has of this name, without the waits in it. */
+static void add_text(char *to, const char *text, size_t n)
+{
+    size_t at = strlen(to);
+    if (n < CAPABILITIES - at)
+        (void)snprintf(to + at, CAPABILITIES - at, "%.*s", (int)n, text);
+}
+
+/* Adds what the terminal's description has of this name, without the waits in it. What is too long is left out whole. */
 static void add_capability(char *to, const char *name)
 {
+    char text[CAPABILITIES / 4];
+    size_t n = 0;
     const char *from = tigetstr(name);
     if (from == NULL || from == (const char *)-1)
         return;
-    size_t at = strlen(to);
-    while (*from != '\0' && at + 1 < CAPABILITIES) {
+    while (*from != '\0' && n < sizeof text) {
         if (from[0] == '$' && from[1] == '<' && strchr(from, '>') != NULL)
             from = strchr(from, '>') + 1;
         else
-            to[at++] = *from++;
+            text[n++] = *from++;
     }
-    to[at] = '\0';
+    if (n < sizeof text)
+        add_text(to, text, n);
 }
 
 /* What the terminal is shown by a handler, which can't call ncurses: another screen, and that it marks pastes and tells of the wheel. False
    where the terminal isn't known, or can't move its cursor. */
 bool draw_marks(struct marks *marks)
 {
-    static char begin[CAPABILITIES + MODES], end[CAPABILITIES];
+    static const char MODES_SET[] = "\33[?2004h\33[?1000h\33[?1006h", MODES_RESET[] = "\33[?1006l\33[?1000l\33[?2004l";
+    static char begin[CAPABILITIES], end[CAPABILITIES];
     static bool is_known;
     int answer;
     *marks = (struct marks){.begin = begin, .end = end, .is_full = true};
@@ -45,8 +55,8 @@ bool draw_marks(struct marks *marks)
     if (setupterm(NULL, STDOUT_FILENO, &answer) != OK || tigetstr("cup") == NULL)
         return false;
     add_capability(begin, "smcup");
-    (void)strcat(begin, "\33[?2004h\33[?1000h\33[?1006h");
-    (void)strcat(end, "\33[?1006l\33[?1000l\33[?2004l");
+    add_text(begin, MODES_SET, strlen(MODES_SET));
+    add_text(end, MODES_RESET, strlen(MODES_RESET));
     add_capability(end, "sgr0");
     add_capability(end, "cnorm");
     add_capability(end, tigetstr("rmcup") != NULL ? "rmcup" : "clear");

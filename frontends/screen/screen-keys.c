@@ -8,84 +8,9 @@
 enum { MOMENT = 6 };
 static const struct timespec SOON = {.tv_nsec = MOMENT * 1000000}, AT_ONCE;
 
-enum sequence {
-    OTHER, UP, DOWN, LEFT, RIGHT, HOME, END, PAGE_UP, PAGE_DOWN, HELP, PANE, SAVE, LINE_NUMBERS, NEXT_CHANGE, CHANGE_BEFORE, ROW_UP, ROW_DOWN,
-    SCREEN_UP, SCREEN_DOWN, WHEEL_UP, WHEEL_DOWN, MOUSE
-};
-
-/* What keys send, behind ESC [ or ESC O. */
-static const struct {
-    const char *sent;
-    enum sequence key;
-} SEQUENCES[] = {{"A", UP}, {"B", DOWN}, {"C", RIGHT}, {"D", LEFT}, {"H", HOME}, {"1~", HOME}, {"7~", HOME}, {"F", END}, {"4~", END},
-    {"8~", END}, {"5~", PAGE_UP}, {"6~", PAGE_DOWN}, {"P", HELP}, {"11~", HELP}, {"[A", HELP}, {"Q", PANE}, {"12~", PANE}, {"[B", PANE},
-    {"R", SAVE}, {"13~", SAVE}, {"[C", SAVE}, {"15~", NEXT_CHANGE}, {"[E", NEXT_CHANGE}, {"17~", CHANGE_BEFORE}, {"18~", LINE_NUMBERS},
-    {"1;2A", ROW_UP}, {"1;2B", ROW_DOWN}, {"a", ROW_UP}, {"b", ROW_DOWN}, {"5;5~", SCREEN_UP}, {"6;5~", SCREEN_DOWN}};
-
-/* What a mouse tells: behind ESC [ < the number of a button, whose bits 4, 8 and 16 are keys that are held, and then the place. */
-static enum sequence mouse(const uint8_t *bytes)
-{
-    long button = strtol((const char *)bytes + 3, NULL, 10) & ~28L;
-    return button == 64 ? WHEEL_UP : button == 65 ? WHEEL_DOWN : MOUSE;
-}
-
-static enum sequence sequence_of(const uint8_t *bytes, size_t n)
-{
-    if (bytes[1] == '[' && bytes[2] == '<')
-        return mouse(bytes);
-    for (size_t i = 0; i < sizeof SEQUENCES / sizeof *SEQUENCES; i++) {
-        if (n == strlen(SEQUENCES[i].sent) + 2 && memcmp(bytes + 2, SEQUENCES[i].sent, n - 2) == 0)
-            return SEQUENCES[i].key;
-    }
-    return OTHER;
-}
-
 static enum fate ring(void)
 {
     return shown(tty_say("\a"));
-}
-
-/* Takes a byte into the string, and runs it at a pair of ESC. A name ends with its line. */
-static enum fate take(struct screen *screen, uint8_t byte)
-{
-    struct bytes *line = &screen->line;
-    if (screen->is_naming && byte == LINE_FEED) {
-        screen->is_naming = false;
-        return screen_name(screen);
-    }
-    if (!bytes_add(line, &byte, 1))
-        return NO_MEMORY;
-    screen->is_other = true;
-    bool is_pair = byte == ESCAPE && line->count > 1 && line->at[line->count - 2] == ESCAPE;
-    return is_pair && !screen->is_naming ? screen_run(screen) : GOES_ON;
-}
-
-static enum fate cut(struct screen *screen, size_t to)
-{
-    if (screen->line.count == 0)
-        return ring();
-    screen->line.count = to;
-    screen->is_other = true;
-    return GOES_ON;
-}
-
-/* Where the last line of the string begins. At the beginning of a line, where the one before does. */
-static size_t line_start(const struct bytes *line)
-{
-    size_t start = line->count;
-    if (start > 0)
-        start--;
-    while (start > 0 && line->at[start - 1] != LINE_FEED)
-        start--;
-    return start;
-}
-
-static enum fate drop(struct screen *screen)
-{
-    screen->line.count = 0;
-    screen->is_naming = false;
-    screen->is_other = true;
-    return GOES_ON;
 }
 
 /* Leaves without writing. Where something would be lost, it asks once. */
@@ -98,33 +23,36 @@ static enum fate leave(struct screen *screen, bool has_asked)
     return GOES_ON;
 }
 
-/* A key that edits the string, or is a byte of it. */
-static enum fate edit(struct screen *screen, uint8_t key)
+static enum fate drop(struct screen *screen)
 {
-    const struct bytes *line = &screen->line;
-    if (key == DELETE || key == tty_erase_key())
-        return cut(screen, line->count - 1);
-    switch (key) {
-    case CONTROL('U'):
-        return cut(screen, line_start(line));
-    case CONTROL('C'):
-        return drop(screen);
-    case CONTROL('V'):
-        screen->is_quoted = true;
-        return GOES_ON;
-    case CONTROL('G'):
-        return line->count > 0 && line->at[line->count - 1] == key ? drop(screen) : take(screen, key);
-    case RETURN:
-        return take(screen, LINE_FEED);
-    default:
-        return take(screen, key);
+    if (screen->is_naming)
+        line_clear(&screen->line);
+    else
+        line_drop(&screen->line);
+    screen->is_naming = false;
+    screen->is_other = true;
+    return GOES_ON;
+}
+
+/* What a change of the line asks for. */
+static enum fate obey(struct screen *screen, enum edit edit)
+{
+    switch (edit) {
+    case LINE_EDITED: screen->is_other = true; return GOES_ON;
+    case LINE_RUNS: return screen_run(screen);
+    case LINE_NAMED: screen->is_naming = false; return screen_name(screen);
+    case LINE_DROPPED: return drop(screen);
+    case LINE_REFUSED: return ring();
+    case LINE_NO_MEMORY: return NO_MEMORY;
+    default: return GOES_ON;
     }
 }
 
-/* What every key does first: what was said or shown for the one before is gone. True where that was the help. */
+/* What every key does first: what was said or shown for the one before is gone, and the window goes back. True where that was the help. */
 static bool begin_key(struct screen *screen)
 {
     bool was_helped = screen->is_helped;
+    screen->is_other |= screen->is_scrolled && !screen->is_stepping;
     screen->message[0] = '\0';
     screen->is_helped = screen->has_asked = screen->has_warned = screen->is_scrolled = false;
     screen->seeks = STAYS;
@@ -152,15 +80,12 @@ static enum fate press(void *to, uint8_t key)
         if (is_for_leaving(key))
             return GOES_ON;
     }
-    if (screen->is_quoted) {
-        screen->is_quoted = false;
-        return take(screen, key);
-    }
-    if (screen->line.count == 0 && !screen->is_naming && key == CONTROL('D'))
+    bool is_first = screen->line.text.count == 0 && !screen->line.is_quoted && !screen->is_naming;
+    if (is_first && key == CONTROL('D'))
         return leave(screen, has_asked);
-    if (screen->line.count == 0 && has_warned && key == RETURN)
+    if (is_first && has_warned && key == RETURN)
         return screen_name(screen);
-    return edit(screen, key);
+    return obey(screen, line_press(&screen->line, key, screen->is_naming));
 }
 
 static enum fate step(struct screen *screen, enum sequence key)
@@ -228,13 +153,22 @@ static bool changes_look(struct screen *screen, enum sequence key)
     return true;
 }
 
+/* Brings back what was typed before, for which the steps are left. */
+static enum fate recall(struct screen *screen, bool is_older)
+{
+    if (screen->is_stepping)
+        screen_end_steps(screen, false);
+    return screen->is_naming ? ring() : obey(screen, line_recall(&screen->line, is_older));
+}
+
 static enum fate press_sequence(void *to, const uint8_t *bytes, size_t n)
 {
     struct screen *screen = to;
     enum sequence key = sequence_of(bytes, n);
-    bool is_empty = screen->line.count == 0 && !screen->is_naming, was_scrolled = screen->is_scrolled;
+    bool is_empty = screen->line.text.count == 0 && !screen->is_naming, was_scrolled = screen->is_scrolled;
     if (key == MOUSE)
         return GOES_ON;
+    screen->line.is_quoted = false;
     bool was_helped = begin_key(screen);
     if (key == HELP) {
         screen->is_helped = !was_helped || help_has_more();
@@ -248,7 +182,11 @@ static enum fate press_sequence(void *to, const uint8_t *bytes, size_t n)
         screen_scroll(screen, rows_of(key));
         return GOES_ON;
     }
-    if (key == OTHER || !is_empty)
+    if (key == OLDER || key == NEWER)
+        return recall(screen, key == OLDER);
+    if (!is_empty)
+        return obey(screen, line_move(&screen->line, key));
+    if (key == OTHER || key == ERASE)
         return ring();
     if (key != UP && key != DOWN && key != SAVE)
         return step(screen, key);
@@ -261,19 +199,19 @@ static enum fate press_sequence(void *to, const uint8_t *bytes, size_t n)
     return GOES_ON;
 }
 
-static enum fate paste(void *to, uint8_t byte)
+static enum fate paste(void *to, const uint8_t *bytes, size_t n)
 {
     struct screen *screen = to;
     if (screen->is_stepping)
         screen_end_steps(screen, false);
-    return take(screen, byte);
+    return obey(screen, line_paste(&screen->line, bytes, n, screen->is_naming));
 }
 
 static void begin_paste(void *to)
 {
     struct screen *screen = to;
     (void)begin_key(screen);
-    screen->is_quoted = false;
+    screen->line.is_quoted = false;
 }
 
 static const struct taker TAKER = {.press = press, .sequence = press_sequence, .paste = paste, .begin_paste = begin_paste};
@@ -281,29 +219,27 @@ static const struct taker TAKER = {.press = press, .sequence = press_sequence, .
 /* An ESC alone may begin a sequence, and is taken into the string until that is known. */
 static enum fate take_tentatively(struct screen *screen)
 {
-    bool is_of_string = !screen->is_stepping && !screen->is_helped && !screen->is_quoted && !screen->is_naming;
-    if (!is_of_string || screen->is_tentative || screen->pending.count != 1)
+    bool is_of_string = !screen->is_stepping && !screen->is_helped && !screen->line.is_quoted && !screen->is_naming;
+    if (!is_of_string || screen->is_tentative || screen->pending.count != 1 || line_is_escaped(&screen->line))
         return GOES_ON;
     screen->is_tentative = screen->is_other = true;
-    return bytes_add(&screen->line, screen->pending.at, 1) ? GOES_ON : NO_MEMORY;
+    return line_insert(&screen->line, screen->pending.at, 1) ? GOES_ON : NO_MEMORY;
 }
 
-/* Takes what came. What may be the beginning of a sequence waits for so long as bytes may be apart that come together; but an ESC that
-   makes a pair does not. */
+/* Takes what came. What may be the beginning of a sequence waits for so long as bytes may be apart that come together. */
 static enum fate receive(struct screen *screen, bool is_late)
 {
-    struct bytes *line = &screen->line;
     bool is_escape = screen->pending.count == 1 && screen->pending.at[0] == ESCAPE;
-    bool is_pair = is_escape && !screen->is_tentative && line->count > 0 && line->at[line->count - 1] == ESCAPE;
-    if (keys_are_open(&screen->keys, &screen->pending) && !is_late && !is_pair)
+    if (keys_are_open(&screen->keys, &screen->pending) && !is_late)
         return take_tentatively(screen);
-    bool was_tentative = screen->is_tentative;
+    bool was_tentative = screen->is_tentative, was_scrolled = screen->is_scrolled;
     screen->is_tentative = false;
-    line->count -= was_tentative;
-    enum fate fate = keys_receive(&screen->keys, &screen->pending, &TAKER, screen);
+    if (was_tentative)
+        line_cut(&screen->line, screen->line.cursor - 1, screen->line.cursor);
+    enum fate fate = keys_receive(&screen->keys, &screen->line, &screen->pending, &TAKER, screen);
     screen->pending.count = 0;
     if (was_tentative)
-        screen->is_other = !is_escape;
+        screen->is_other = !is_escape || was_scrolled;
     return fate;
 }
 
@@ -327,7 +263,7 @@ static void take_view(struct screen *screen)
         (void)snprintf(screen->message, sizeof screen->message, "the preview was ended by a fault");
         return;
     }
-    screen->is_previewed = screen->line.count > 0 || screen->is_stepping;
+    screen->is_previewed = screen->line.text.count > 0 || screen->is_stepping;
     if (screen->is_previewed) {
         screen->top = screen->preview.seen->from;
         screen->scroll = 0;
@@ -364,8 +300,10 @@ static void resume(struct screen *screen)
 /* Waits for what comes next. While nothing comes after a change, the lines of the text are counted, and a copy is made for the next key. */
 static enum event await(struct screen *screen)
 {
-    if (screen->pending.count > 0)
-        return tty_wait(screen->preview.link, &TTY_GAP);
+    if (screen->pending.count > 0) {
+        bool is_pair = screen->pending.count == 1 && !screen->is_tentative && line_is_escaped(&screen->line);
+        return tty_wait(screen->preview.link, is_pair ? &TTY_PAIR_GAP : &TTY_GAP);
+    }
     if (screen->preview.is_busy) {
         struct timespec patience = preview_patience(&screen->preview);
         return tty_wait(screen->preview.link, &patience);
@@ -381,11 +319,19 @@ static enum event await(struct screen *screen)
     return tty_wait(screen->preview.link, NULL);
 }
 
+/* Whether more of a paste is there to be read: what it has till now is then neither tried nor drawn. */
+static bool is_pasting(const struct screen *screen)
+{
+    return screen->keys.is_pasted && tty_wait(-1, &TTY_GAP) == CAME;
+}
+
 enum fate screen_converse(struct screen *screen)
 {
     enum fate fate = GOES_ON;
+    bool is_shown = true;
     while (fate == GOES_ON) {
-        draw(screen);
+        if (is_shown)
+            draw(screen);
         switch (await(screen)) {
         case CAME: fate = read_keys(screen); break;
         case TOLD: take_view(screen); break;
@@ -398,7 +344,8 @@ enum fate screen_converse(struct screen *screen)
             break;
         default: fate = READ_FAULT;
         }
-        if (fate == GOES_ON)
+        is_shown = fate == GOES_ON && !is_pasting(screen);
+        if (is_shown)
             follow(screen);
     }
     return fate;

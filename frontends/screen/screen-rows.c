@@ -12,15 +12,36 @@ static size_t prompt_cells(const struct screen *screen)
     return screen->is_naming ? sizeof NAME - 1 : 1;
 }
 
-/* Behind the last cell of the string, which the cursor stands on. */
-static struct walk end_of_line(const struct screen *screen)
+/* Of a long string no more is looked at than so many bytes on either side of the cursor. */
+enum { FAR = 1 << 16 };
+
+/* The first byte that is drawn: that of the string, or of a character far before the cursor. */
+static size_t first_drawn(const uint8_t *text, size_t cursor)
+{
+    size_t at = cursor > FAR ? cursor - FAR : 0;
+    while (at > 0 && at < cursor && (text[at] & 0xC0) == 0x80)
+        at++;
+    return at;
+}
+
+/* The place of the cursor among what is typed. Where the steps of a string are gone through it is at its end. */
+static size_t cursor_of(const struct screen *screen)
+{
+    size_t n;
+    (void)screen_line(screen, &n);
+    return screen->is_stepping ? n : screen->line.cursor;
+}
+
+/* The cell of a byte of the string, or the one behind its last. */
+static struct walk cell_of(const struct screen *screen, size_t place)
 {
     size_t n;
     const uint8_t *text = screen_line(screen, &n);
+    size_t cursor = cursor_of(screen), at = first_drawn(text, cursor);
     struct walk walk = {.columns = (size_t)COLS};
     walk.column = prompt_cells(screen) % walk.columns;
-    for (size_t at = 0; at < n;) {
-        struct glyph glyph = glyph_at(text, n, at, SIZE_MAX, walk.column);
+    while (at < n && at < place && at < cursor + FAR) {
+        struct glyph glyph = glyph_at(text, n, at, cursor, walk.column);
         walk_to(&walk, &glyph);
         walk_behind(&walk, &glyph);
         at += glyph.bytes;
@@ -32,7 +53,7 @@ static struct walk end_of_line(const struct screen *screen)
 
 int line_rows(const struct screen *screen)
 {
-    size_t row = end_of_line(screen).row;
+    size_t row = cell_of(screen, SIZE_MAX).row;
     return row < 1000 ? (int)row + 1 : 1000;
 }
 
@@ -45,7 +66,7 @@ static bool is_here(const struct screen *screen, size_t at)
     if (screen->is_stepping)
         return view->subject == OF_STEP;
     bool is_open = view->told.code == CODE_UTC && view->told.calls == 0;
-    return view->subject == OF_STRING && view->n >= screen->line.count && view->told.code != 0 && !is_open;
+    return view->subject == OF_STRING && view->n >= line_string(&screen->line) && view->told.code != 0 && !is_open;
 }
 
 static unsigned long attributes_of(const struct token *token, const struct glyph *glyph, bool is_marked)
@@ -55,31 +76,39 @@ static unsigned long attributes_of(const struct token *token, const struct glyph
     return own | (glyph->is_control ? A_BOLD : 0) | (is_marked ? A_REVERSE : 0);
 }
 
-/* The string with its tokens told apart; its end can always be seen, and the cursor is there. */
+/* The first row of the string that is shown, of so many: its end can be seen, or else the cursor. */
+static size_t first_row(const struct screen *screen, size_t rows)
+{
+    size_t end = cell_of(screen, SIZE_MAX).row + 1, cursor = cell_of(screen, cursor_of(screen)).row;
+    size_t first = end > rows ? end - rows : 0;
+    return first < cursor ? first : cursor;
+}
+
+/* The string with its tokens told apart, which are those of its beginning: of a long one they aren't looked for. */
 void draw_line(const struct screen *screen, int top, int rows)
 {
     static const short PAIR_OF[] = {NUMBERS, NUMBERS, COMMANDS, TEXTS, BLOCKS, PLAIN, TEXTS, ERROR};
-    size_t n, first = end_of_line(screen).row + 1, marked = 0;
+    size_t n, first = first_row(screen, (size_t)rows), marked = 0;
     const uint8_t *text = screen_line(screen, &n);
+    size_t cursor = cursor_of(screen), at = first_drawn(text, cursor);
     struct walk walk = {.columns = (size_t)COLS, .column = prompt_cells(screen) % (size_t)COLS};
-    struct token token = {0};
-    first = first > (size_t)rows ? first - (size_t)rows : 0;
+    struct token token = {.kind = BLANK, .to = at > 0 ? n : 0};
     if (first == 0)
         (void)mvaddnstr(top, 0, screen->is_naming ? NAME : "*", COLS);
-    for (size_t at = 0; at < n;) {
+    while (at < n && walk.row < first + (size_t)rows) {
         if (at >= token.to && !screen->is_naming)
             token = token_at(text, n, at);
         if (is_here(screen, at) && !screen->is_naming)
             marked = token.to;
-        struct glyph glyph = glyph_at(text, n, at, SIZE_MAX, walk.column);
+        struct glyph glyph = glyph_at(text, n, at, cursor, walk.column);
         walk_to(&walk, &glyph);
-        if (walk.row >= first && !glyph.is_line_end)
+        if (walk.row >= first && walk.row < first + (size_t)rows && !glyph.is_line_end)
             put_glyph(top + (int)(walk.row - first), (int)walk.column, &glyph, attributes_of(&token, &glyph, at < marked),
                 at < marked ? ERROR : PAIR_OF[token.kind]);
         walk_behind(&walk, &glyph);
         at += glyph.bytes;
     }
-    walk = end_of_line(screen);
+    walk = cell_of(screen, cursor);
     (void)move(top + (int)(walk.row - first), (int)walk.column);
 }
 

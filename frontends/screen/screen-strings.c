@@ -13,8 +13,8 @@ const uint8_t *screen_line(const struct screen *screen, size_t *n)
     const struct journal *journal = &screen->work.journal;
     if (screen->is_stepping && journal->cursor > 0)
         return journal_text(journal, journal->cursor - 1, n);
-    *n = screen->line.count;
-    return screen->line.at;
+    *n = screen->line.text.count;
+    return screen->line.text.at;
 }
 
 /* The window that is to be looked at next. */
@@ -57,9 +57,9 @@ void screen_begin(struct screen *screen, struct request request, const uint8_t *
 /* Shows what the string does that is typed so far. */
 void screen_try(struct screen *screen)
 {
-    const uint8_t *text = screen->line.at;
+    const uint8_t *text = screen->line.text.at;
     uint64_t number;
-    size_t n = screen->line.count;
+    size_t n = line_string(&screen->line);
     screen->is_other = false;
     if (n == 0 || screen->is_naming || n > LONGEST) {
         preview_end(&screen->preview);
@@ -117,31 +117,37 @@ static void draw_running(struct screen *screen)
     }
 }
 
-/* Runs the string that is typed, whose pair of ESC is whole, and keeps it. */
+/* Runs the first string that is typed, whose pair of ESC is whole, and keeps it. What follows stays in the line, but where a name is wanted. */
 enum fate screen_run(struct screen *screen)
 {
+    struct bytes rest = {0};
+    if (!line_split(&screen->line, &rest))
+        return NO_MEMORY;
     draw_running(screen);
     begin_change(screen);
-    struct told told = work_do(&screen->work, screen->line.at, screen->line.count - 1);
+    struct told told = work_do(&screen->work, screen->line.text.at, screen->line.text.count - 1);
     if (told.at == TECO_NOWHERE && told.steps == 0)
         (void)work_steps(&screen->work, &told.steps);
     screen->still.told = told;
     screen->still.tail = told.made < TAIL ? told.made : TAIL;
     memcpy(screen->still.typed, screen->work.room + told.made - screen->still.tail, screen->still.tail);
     note_printed(screen->work.room, told.made);
-    screen->line.count = 0;
+    line_next(&screen->line, &rest);
     if (teco_done(&screen->work.session) != 1) {
         end_change(screen);
+        screen->is_other = screen->line.text.count > 0;
         return GOES_ON;
     }
+    line_drop(&screen->line);
     return conclude_writing(screen, work_write(&screen->work, screen->message, sizeof screen->message));
 }
 
 enum fate screen_name(struct screen *screen)
 {
     begin_change(screen);
-    enum fate fate = work_write_to(&screen->work, screen->line.at, screen->line.count, screen->message, sizeof screen->message);
-    screen->line.count = 0;
+    const struct bytes *name = &screen->line.text;
+    enum fate fate = work_write_to(&screen->work, name->at, name->count, screen->message, sizeof screen->message);
+    line_clear(&screen->line);
     return conclude_writing(screen, fate);
 }
 

@@ -163,14 +163,14 @@ void draw_strip(const struct screen *screen, int top, int rows)
 {
     const struct journal *journal = &screen->work.journal;
     int left = COLS - STRIP;
-    bool is_typing = screen->line.count > 0 && !screen->is_stepping && !screen->is_naming;
+    bool is_typing = screen->line.text.count > 0 && !screen->is_stepping && !screen->is_naming;
     size_t place = journal->cursor, shown = journal->count + is_typing;
     size_t first = place + 2 > (size_t)rows ? place + 2 - (size_t)rows : 0;
     for (size_t i = first; i < shown && i - first < (size_t)rows; i++) {
         int row = top + (int)(i - first);
         if (is_typing && i == place) {
             (void)mvaddstr(row, left, "> ");
-            (void)put_bytes(row, left + 2, COLS, screen->line.at, screen->line.count, A_BOLD, PLAIN);
+            (void)put_bytes(row, left + 2, COLS, screen->line.text.at, screen->line.text.count, A_BOLD, PLAIN);
         } else {
             size_t string = is_typing && i > place ? i - 1 : i;
             draw_string(screen, row, string, string + 1 == place && !is_typing);

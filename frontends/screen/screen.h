@@ -208,13 +208,13 @@ struct screen {
     struct work work;
     struct preview preview;
     struct view still;       /* of the session itself */
-    struct bytes line;       /* the string that is typed, or the name of an output */
+    struct line line;        /* the string that is typed, or the name of an output */
     struct bytes pending;    /* bytes of which more may come: an ESC alone, most times */
     struct keys keys;
     bool is_previewed;       /* what is shown is a preview, and not the session */
     bool is_stepping;        /* keys go through the steps of the last string, */
     uint64_t step, steps;    /* and are at this one of so many */
-    bool is_quoted, is_naming, has_asked, has_warned, is_helped;
+    bool is_naming, has_asked, has_warned, is_helped;
     bool is_other;           /* the string is another one than was tried last, */
     bool is_tentative;       /* and ends with an ESC that may begin a sequence */
     size_t top;              /* where the window begins, */

@@ -73,7 +73,7 @@ static enum fate edit(const struct options *options)
     }
     work_tell(&screen.work);
     work_close(&screen.work);
-    bytes_free(&screen.line);
+    bytes_free(&screen.line.text);
     bytes_free(&screen.pending);
     lines_forget();
     pages_forget();

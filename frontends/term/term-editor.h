@@ -9,28 +9,18 @@
 
 #include "terminal.h"
 
-/* The string that is being typed, and what of it is on the screen. All zero it is empty, and the cursor is at the beginning of a line. */
-struct line {
-    struct bytes text;
-    const char *prompt; /* `*` where it is none */
-    size_t drawn;       /* so many bytes are on the screen, */
-    size_t kept;        /* and so many of them are still the text's */
-    size_t row, column, top; /* of the cursor, from the prompt on; of the first row that the screen still has */
+/* What of a line is on the screen, from its prompt on. All zero it is nothing, and the terminal's cursor is at the beginning of a row. */
+struct drawing {
+    const char *prompt;      /* `*` where it is none */
+    size_t drawn, cursor;    /* so many bytes were drawn, and the terminal's cursor is at this one, */
+    size_t row, column, top; /* which is here; and the first row that the screen still has */
     size_t rows, columns;    /* of the terminal, when it was drawn; none are drawn where it is 0 */
+    bool is_cut;             /* the last rows don't fit below the cursor's */
     bool lost;               /* the cursor is anywhere */
 };
 
-/* Adds a byte. False where memory is refused. */
-bool line_add(struct line *line, uint8_t byte);
-
-/* Cuts the text off after n bytes. */
-void line_cut(struct line *line, size_t n);
-
-/* Where its last line begins. At the beginning of a line, where the one before does. */
-size_t line_start(const struct line *line);
-
-/* Brings the screen to the text. GOES_ON, SHOW_FAULT or NO_MEMORY. */
-enum fate line_show(struct line *line);
+/* Brings the screen to the line and its cursor. GOES_ON, SHOW_FAULT or NO_MEMORY. */
+enum fate line_show(struct line *line, struct drawing *drawing);
 
 /* Shows a text as it would be typed, from the beginning of a line on. The same. */
 enum fate line_show_text(const struct bytes *text);
@@ -41,13 +31,13 @@ enum { WHY = 400 };
 struct editor {
     struct work work;
     struct line line;
+    struct drawing drawing;
     struct keys keys;
     struct bytes last; /* the last string, */
     struct told told;  /* how it ended, */
     bool has_failed;   /* and if it ended by a code, and no key came after that */
     bool has_asked;    /* whether to leave with edits, and no key came after that */
     bool has_warned;   /* that a file is there which an exit would replace, and no key came after that */
-    bool is_quoted;    /* the next key is a byte as it is */
     bool is_naming;    /* what is typed is the name of an output, since the one before can't be written */
 };
 

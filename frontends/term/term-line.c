@@ -7,16 +7,16 @@
 
 enum { TAB_STOP = 8, LEAST_ROWS = 2, LEAST_COLUMNS = 16 };
 
-/* Where the next cell comes, and the bytes that draw the cells from a row on. */
+/* Where the next cell comes, and the bytes that draw the cells from a row on and before another one. */
 struct pen {
     struct bytes *to;
-    size_t first, row, column, columns;
+    size_t first, end, row, column, columns;
     bool failed;
 };
 
 static void draw(struct pen *pen, const char *bytes, size_t n)
 {
-    if (pen->row >= pen->first && !bytes_add(pen->to, bytes, n))
+    if (pen->row >= pen->first && pen->row < pen->end && !bytes_add(pen->to, bytes, n))
         pen->failed = true;
 }
 
@@ -28,7 +28,8 @@ static void draw_text(struct pen *pen, const char *text)
 /* A row that is full: a blank goes to the next one on every terminal, whether it waits with that or not. */
 static void end_row(struct pen *pen, const char *bytes)
 {
-    draw_text(pen, bytes);
+    if (pen->row + 1 < pen->end)
+        draw_text(pen, bytes);
     pen->row++;
     pen->column = 0;
 }
@@ -114,23 +115,11 @@ static size_t unchanged(const struct line *line)
     return length > back ? at - back : at;
 }
 
-/* Where the character before a place begins with what it combines with, since that is one cell: it is drawn anew with them. */
-static size_t whole_cell(const struct line *line, size_t at)
+/* Where the cell before a place begins, whose marks may have changed: it is drawn anew with them. */
+static size_t whole_cell(const struct line *line, size_t drawn, size_t at)
 {
     const uint8_t *text = line->text.at;
-    wchar_t wide = L'a';
-    if (at == 0 || at == line->drawn || text[at - 1] == LINE_FEED)
-        return at;
-    do {
-        size_t from = at - 1;
-        while (from > 0 && at - from < 4 && (text[from] & 0xC0) == 0x80)
-            from--;
-        mbstate_t state = {0};
-        bool is_whole = mbrtowc(&wide, (const char *)text + from, at - from, &state) == at - from;
-        wide = is_whole ? wide : L'a';
-        at = is_whole ? from : at - 1;
-    } while (at > 0 && text[at - 1] != LINE_FEED && wcwidth(wide) == 0);
-    return at;
+    return at == 0 || at == drawn || text[at - 1] == LINE_FEED ? at : cell_before(text, at);
 }
 
 /* The size of the terminal, as far as it can be drawn in. */
@@ -142,81 +131,131 @@ static void measure(size_t *rows, size_t *columns)
 }
 
 /* From the prompt to so many bytes. */
-static void draw_from_prompt(struct pen *pen, const struct line *line, size_t to)
+static void draw_from_prompt(struct pen *pen, const struct line *line, const struct drawing *drawing, size_t to)
 {
-    draw_plain(pen, line->prompt != NULL ? line->prompt : "*");
+    draw_plain(pen, drawing->prompt != NULL ? drawing->prompt : "*");
     draw_bytes(pen, line->text.at, 0, to);
 }
 
-/* Goes so many rows up, to this column, and clears what comes there and below. */
-static void go_up(struct pen *pen, size_t rows, size_t column)
+/* Where so many bytes end: a pen that draws nothing. */
+static struct pen pen_at(const struct line *line, const struct drawing *drawing, size_t to)
+{
+    struct pen pen = {.first = SIZE_MAX, .columns = drawing->columns};
+    draw_from_prompt(&pen, line, drawing, to);
+    return pen;
+}
+
+static void draw_move(struct pen *pen, char letter, size_t cells)
 {
     char text[32];
-    if (rows > 0) {
-        (void)snprintf(text, sizeof text, "\33[%zuA", rows);
-        draw_text(pen, text);
-    }
+    if (cells == 0)
+        return;
+    (void)snprintf(text, sizeof text, "\33[%zu%c", cells, letter);
+    draw_text(pen, text);
+}
+
+/* Goes to a place of the rows that are on the screen. */
+static void go_to(struct pen *pen, size_t row, size_t column)
+{
+    if (row < pen->row)
+        draw_move(pen, 'A', pen->row - row);
+    for (size_t at = pen->row; at < row; at++)
+        draw_text(pen, "\n");
     draw_text(pen, "\r");
-    if (column > 0) {
-        (void)snprintf(text, sizeof text, "\33[%zuC", column);
-        draw_text(pen, text);
-    }
+    draw_move(pen, 'C', column);
+    pen->row = row;
+    pen->column = column;
+}
+
+static void clear_below(struct pen *pen)
+{
     draw_text(pen, "\33[J");
 }
 
-/* Goes back to where so many bytes end. Where that row has left the screen, draws as many rows before it as there is room for. */
-static void go_back(struct pen *pen, struct line *line, size_t to)
+/* Draws the rows from `top` on for which there is room, in the place of those that are there. */
+static void draw_rows(struct pen *pen, const struct line *line, struct drawing *drawing, size_t top)
 {
-    struct pen end = {.to = pen->to, .first = SIZE_MAX, .columns = pen->columns};
-    draw_from_prompt(&end, line, to);
-    if (end.row >= line->top) {
-        go_up(pen, pen->row - end.row, end.column);
-        pen->row = end.row;
-        pen->column = end.column;
-        return;
+    go_to(pen, drawing->top, 0);
+    clear_below(pen);
+    drawing->top = top;
+    *pen = (struct pen){.to = pen->to, .first = top, .end = top + drawing->rows, .columns = pen->columns, .failed = pen->failed};
+    draw_from_prompt(pen, line, drawing, line->text.count);
+    drawing->is_cut = pen->row >= pen->end;
+    if (drawing->is_cut) {
+        pen->row = pen->end - 1;
+        pen->column = SIZE_MAX;
     }
-    go_up(pen, pen->row - line->top, 0);
-    line->top = end.row < line->rows ? 0 : end.row - (line->rows - 1);
-    *pen = (struct pen){.to = pen->to, .first = line->top, .columns = pen->columns, .failed = pen->failed};
-    draw_from_prompt(pen, line, to);
+    pen->end = SIZE_MAX;
+    pen->first = 0;
 }
 
 /* Draws the text anew, where nothing of it is on the screen that could stay. */
-static void begin(struct pen *pen, struct line *line)
+static void begin(struct pen *pen, const struct line *line, struct drawing *drawing)
 {
-    bool is_elsewhere = line->lost || line->columns != 0;
-    measure(&line->rows, &line->columns);
-    line->top = 0;
-    *pen = (struct pen){.to = pen->to, .columns = line->columns};
+    bool is_elsewhere = drawing->lost || drawing->columns != 0;
+    measure(&drawing->rows, &drawing->columns);
+    drawing->top = 0;
+    drawing->is_cut = false;
+    *pen = (struct pen){.to = pen->to, .end = SIZE_MAX, .columns = drawing->columns};
     if (is_elsewhere)
-        draw_text(pen, "\r\n");
-    draw_from_prompt(pen, line, line->text.count);
+        draw_text(pen, "\r\n\33[J");
+    draw_from_prompt(pen, line, drawing, line->text.count);
 }
 
-static void draw_changes(struct pen *pen, struct line *line)
+/* Draws what changed, and what is behind it. Where its first row has left the screen, as many rows before it as there is room for. */
+static void draw_changes(struct pen *pen, const struct line *line, struct drawing *drawing)
 {
-    size_t rows, columns, from = whole_cell(line, unchanged(line));
-    measure(&rows, &columns);
-    if (line->lost || rows != line->rows || columns != line->columns) {
-        begin(pen, line);
+    size_t from = whole_cell(line, drawing->drawn, unchanged(line));
+    bool is_behind = from == drawing->drawn && drawing->cursor == from;
+    struct pen begins = is_behind ? *pen : pen_at(line, drawing, from);
+    if (begins.row < drawing->top) {
+        draw_rows(pen, line, drawing, begins.row < drawing->rows ? 0 : begins.row - (drawing->rows - 1));
         return;
     }
-    if (from < line->drawn)
-        go_back(pen, line, from);
+    if (!is_behind)
+        go_to(pen, begins.row, begins.column);
+    if (from < drawing->drawn)
+        clear_below(pen);
     draw_bytes(pen, line->text.at, from, line->text.count);
 }
 
-enum fate line_show(struct line *line)
+/* Goes from the end of the text to the line's cursor. Where that isn't on the screen, its row is brought there. */
+static void show_cursor(struct pen *pen, const struct line *line, struct drawing *drawing, bool is_at_end)
+{
+    struct pen at = is_at_end && line->cursor == line->text.count ? *pen : pen_at(line, drawing, line->cursor);
+    size_t last = drawing->top + drawing->rows - 1;
+    if (at.row < drawing->top || drawing->is_cut)
+        draw_rows(pen, line, drawing, at.row < drawing->top ? at.row : at.row > last ? drawing->top + (at.row - last) : drawing->top);
+    if (at.row != pen->row || at.column != pen->column)
+        go_to(pen, at.row, at.column);
+}
+
+static bool is_elsewhere(const struct drawing *drawing)
+{
+    size_t rows, columns;
+    measure(&rows, &columns);
+    return drawing->lost || rows != drawing->rows || columns != drawing->columns;
+}
+
+enum fate line_show(struct line *line, struct drawing *drawing)
 {
     struct bytes bytes = {0};
-    struct pen pen = {.to = &bytes, .row = line->row, .column = line->column, .columns = line->columns};
-    draw_changes(&pen, line);
-    line->row = pen.row;
-    line->column = pen.column;
-    if (pen.row >= line->top + line->rows)
-        line->top = pen.row - (line->rows - 1);
-    line->drawn = line->kept = line->text.count;
-    line->lost = false;
+    struct pen pen = {.to = &bytes, .end = SIZE_MAX, .row = drawing->row, .column = drawing->column, .columns = drawing->columns};
+    bool is_other = line->kept < drawing->drawn || line->text.count != drawing->drawn;
+    bool is_new = is_elsewhere(drawing);
+    if (is_new)
+        begin(&pen, line, drawing);
+    else if (is_other && !drawing->is_cut)
+        draw_changes(&pen, line, drawing);
+    if (pen.row >= drawing->top + drawing->rows)
+        drawing->top = pen.row - (drawing->rows - 1);
+    if (is_new || is_other || line->cursor != drawing->cursor)
+        show_cursor(&pen, line, drawing, (is_new || is_other) && !drawing->is_cut);
+    drawing->row = pen.row;
+    drawing->column = pen.column;
+    drawing->drawn = line->kept = line->text.count;
+    drawing->cursor = line->cursor;
+    drawing->lost = false;
     bool shown = !pen.failed && tty_show(bytes.at, bytes.count);
     bytes_free(&bytes);
     return shown ? GOES_ON : pen.failed ? NO_MEMORY : SHOW_FAULT;
@@ -225,33 +264,11 @@ enum fate line_show(struct line *line)
 enum fate line_show_text(const struct bytes *text)
 {
     struct bytes bytes = {0};
-    struct pen pen = {.to = &bytes};
+    struct pen pen = {.to = &bytes, .end = SIZE_MAX};
     size_t rows;
     measure(&rows, &pen.columns);
     draw_bytes(&pen, text->at, 0, text->count);
     bool shown = !pen.failed && tty_show(bytes.at, bytes.count) && (pen.column == 0 || tty_say("\r\n"));
     bytes_free(&bytes);
     return shown ? GOES_ON : pen.failed ? NO_MEMORY : SHOW_FAULT;
-}
-
-bool line_add(struct line *line, uint8_t byte)
-{
-    return bytes_add(&line->text, &byte, 1);
-}
-
-void line_cut(struct line *line, size_t n)
-{
-    line->text.count = n;
-    if (line->kept > n)
-        line->kept = n;
-}
-
-size_t line_start(const struct line *line)
-{
-    size_t start = line->text.count;
-    if (start > 0)
-        start--;
-    while (start > 0 && line->text.at[start - 1] != LINE_FEED)
-        start--;
-    return start;
 }

@@ -72,7 +72,7 @@ static enum fate tell_why(struct editor *editor, enum fate fate, const char *why
         return fate;
     editor->is_naming = fate == GOES_ON;
     editor->has_warned = fate == CHANGED_FILE;
-    editor->line.prompt = editor->is_naming ? "Another name, and Return: " : NULL;
+    editor->drawing.prompt = editor->is_naming ? "Another name, and Return: " : NULL;
     return shown(tty_say(why) && tty_say("\r\n"));
 }
 

@@ -238,6 +238,20 @@ class Terminal:
         os.write(self.master, keys)
         return self
 
+    def floods(self, keys, is_kept=True):
+        """Writes many bytes, and takes what comes meanwhile. Of that no screen is kept, if so said."""
+        os.set_blocking(self.master, False)
+        while keys:
+            ready = select.select([self.master], [self.master], [], PATIENCE)
+            if ready[1]:
+                keys = keys[os.write(self.master, keys[:65536]) :]
+            if ready[0] and is_kept:
+                self.read(0)
+            elif ready[0]:
+                os.read(self.master, 65536)
+        os.set_blocking(self.master, True)
+        return self
+
     def state(self):
         """The screen, without what the program said before its first prompt, as far as that still is the first that is on it."""
         return self.screen.text().removeprefix(self.head)
