@@ -62,8 +62,8 @@ static int conclude(const struct program *program, const char *input, enum fate 
         [NO_TERMINAL] = "standard input and output are no terminal",
         [POOR_TERMINAL] = "this terminal can't move its cursor, or isn't known: TERM says what it is", [READ_FAULT] = "cannot read commands",
         [SHOW_FAULT] = "cannot show", [NO_MEMORY] = "no memory"};
-    if (fate == EXIT || fate == SAVED || fate == END_OF_COMMANDS)
-        return fate == END_OF_COMMANDS ? 2 : 0;
+    if (fate == EXIT || fate == SAVED || fate == END_OF_COMMANDS || fate == TERMINAL_GONE)
+        return fate == END_OF_COMMANDS || fate == TERMINAL_GONE ? 2 : 0;
     (void)fprintf(stderr, "%s: %s%s%s\n", program->name, fate == LARGE_INPUT ? input : "", SAID[fate], fate == NO_INPUT ? input : "");
     return 1;
 }
@@ -79,5 +79,6 @@ int edit_all(const struct program *program, struct options *options, enum fate (
         int own = conclude(program, options->input, fate);
         status = own == 1 || status == 0 ? own : status;
     }
-    return status;
+    past_free();
+    return keep_has_failed() ? 1 : status;
 }

@@ -49,18 +49,6 @@ static bool take_output(struct work *work, struct bytes *output)
     return is_taken && WIFEXITED(status) && WEXITSTATUS(status) == 0;
 }
 
-/* Before INPUT is replaced: what it had is kept, for the strings that may be left. */
-static bool keep_input(struct work *work)
-{
-    size_t left = work->input.count;
-    if (work->is_new || left == work->size)
-        return true;
-    if (!bytes_reserve(&work->input, work->size) || teco_input(&work->session, 0, work->input.at, work->size, &left) != 0)
-        return false;
-    work->input.count = work->size;
-    return true;
-}
-
 /* From now on what would be lost is what differs from the output. */
 static void take_as_base(struct work *work, const struct bytes *output)
 {
@@ -68,7 +56,7 @@ static void take_as_base(struct work *work, const struct bytes *output)
     work->saved = *output;
     work->is_saved = true;
     (void)teco_place(&work->session, &work->saved_place);
-    journal_want(&work->journal, work_has_edits(work));
+    work_want(work);
 }
 
 enum fate work_leave(struct work *work)
@@ -80,7 +68,7 @@ enum fate work_save(struct work *work, char *why, size_t size)
 {
     struct bytes output = {0};
     struct content content = {.bytes = &output};
-    bool is_over = work_is_over_input(work), is_ready = (!is_over || keep_input(work)) && take_output(work, &output);
+    bool is_ready = take_output(work, &output);
     enum fate fate = is_ready ? work_write_content(work, &content, "F3 once more", why, size) : NO_MEMORY;
     if (!is_ready)
         (void)snprintf(why, size, "not saved: the system refuses memory.");
@@ -88,8 +76,6 @@ enum fate work_save(struct work *work, char *why, size_t size)
         bytes_free(&output);
         return fate;
     }
-    if (is_over)
-        journal_keep(&work->input);
     take_as_base(work, &output);
     (void)snprintf(why, size, "%s", work->wrote);
     return GOES_ON;

@@ -20,7 +20,7 @@ volatile sig_atomic_t tty_is_other;
 
 /* Signals that end the program: those that ask for it, and faults. */
 static const int ENDING[] = {SIGINT, SIGTERM, SIGHUP, SIGQUIT, SIGALRM, SIGUSR1, SIGUSR2, SIGPIPE, SIGVTALRM, SIGPROF, SIGPOLL, SIGXCPU,
-    SIGXFSZ, SIGSEGV, SIGBUS, SIGFPE, SIGILL, SIGABRT, SIGSYS, SIGTRAP};
+    SIGSEGV, SIGBUS, SIGFPE, SIGILL, SIGABRT, SIGSYS, SIGTRAP};
 enum { ENDINGS = sizeof ENDING / sizeof *ENDING };
 
 /* Shows a mark where the terminal takes it at once: a handler doesn't wait. */
@@ -66,7 +66,7 @@ static void on_end(int signal)
 {
     int kept = errno;
     give_back();
-    journal_leave();
+    keep_leave();
     file_drop_draft();
     (void)raise(signal);
     errno = kept;
@@ -112,7 +112,7 @@ static bool handle(int signal, void (*handler)(int), int flags)
     return sigfillset(&action.sa_mask) == 0 && sigaction(signal, &action, NULL) == 0;
 }
 
-/* A fault of the stack is handled on another one. */
+/* A fault of the stack is handled on another one. Where a file would grow above a limit, that is told by the write to it. */
 static bool handle_all(void)
 {
     static uint8_t stack[STACK];
@@ -123,7 +123,7 @@ static bool handle_all(void)
         if (!handle(ENDING[i], on_end, (int)SA_RESETHAND | SA_ONSTACK))
             return false;
     }
-    return handle(SIGTSTP, on_stop, 0) && handle(SIGCONT, on_resume, 0) && (!marks.is_full || handle(SIGWINCH, on_resize, 0));
+    return handle(SIGXFSZ, SIG_IGN, 0) && handle(SIGTSTP, on_stop, 0) && handle(SIGCONT, on_resume, 0) && (!marks.is_full || handle(SIGWINCH, on_resize, 0));
 }
 
 /* Keys come one by one, as they are, and nothing is shown of them; Ctrl-Z and Ctrl-\ stay signals. */
@@ -167,14 +167,21 @@ enum fate tty_begin(const struct marks *own_marks)
     return is_set ? GOES_ON : is_poor ? POOR_TERMINAL : NO_TERMINAL;
 }
 
-void tty_forget(void)
+static void drop_handlers(void)
 {
-    is_own = 0;
     for (int i = 0; i < ENDINGS; i++)
         (void)handle(ENDING[i], SIG_DFL, 0);
+    (void)handle(SIGXFSZ, SIG_DFL, 0);
     (void)handle(SIGTSTP, SIG_DFL, 0);
     (void)handle(SIGCONT, SIG_DFL, 0);
     (void)handle(SIGWINCH, SIG_DFL, 0);
+}
+
+void tty_forget(void)
+{
+    is_own = 0;
+    keep_forget();
+    drop_handlers();
 }
 
 void tty_end(void)
@@ -182,7 +189,8 @@ void tty_end(void)
     sigset_t usual;
     bool are_blocked = tty_block(&usual);
     give_back();
-    tty_forget();
+    is_own = 0;
+    drop_handlers();
     if (are_blocked)
         tty_unblock(&usual);
 }

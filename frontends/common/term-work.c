@@ -5,46 +5,35 @@
 #include <stdlib.h>
 #include <string.h>
 
-/* The session has a copy of INPUT. */
-static enum fate open_over(struct work *work, const struct bytes *input)
+/* The name of the output. False where memory is refused. */
+static bool name_output(struct work *work)
 {
-    const uint8_t *text = input->count > 0 ? input->at : (const uint8_t *)"";
-    if (teco_open(&work->session, text, input->count, (size_t)work->options->depth) != 0
-        || teco_stopper_open(&work->asked, &work->asks) != 0)
-        return NO_MEMORY;
-    return GOES_ON;
+    const struct options *options = work->options;
+    const char *output = options->output != NULL ? options->output : options->input;
+    const char *suffix = options->output != NULL || work->is_new ? "" : ".out";
+    size_t size = strlen(output) + sizeof ".out";
+    work->output = malloc(size);
+    if (work->output != NULL)
+        (void)snprintf(work->output, size, "%s%s", output, suffix);
+    return work->output != NULL;
 }
 
 enum fate work_open(struct work *work, const struct options *options)
 {
-    *work = (struct work){.options = options, .journal = {.limit = options->limit}};
-    struct bytes input = {0};
-    enum fate fate = file_read(options->input, &input, &work->known, &work->is_new);
-    if (fate == GOES_ON) {
-        work->size = input.count;
-        fate = open_over(work, &input);
-    }
-    bytes_free(&input);
+    *work = (struct work){.options = options, .keeper = {.file = -1}};
+    enum fate fate = file_read(options->input, &work->input, &work->known, &work->is_new);
     if (fate != GOES_ON)
         return fate;
-    const char *output = options->output != NULL ? options->output : options->input;
-    const char *suffix = options->output != NULL || work->is_new ? "" : ".out";
-    size_t size = strlen(output) + sizeof ".out";
     work->room = malloc(ROOM);
-    work->output = malloc(size);
-    if (work->room == NULL || work->output == NULL)
+    if (work->room == NULL || !name_output(work) || teco_stopper_open(&work->asked, &work->asks) != 0)
         return NO_MEMORY;
-    (void)snprintf(work->output, size, "%s%s", output, suffix);
-    journal_watch(&work->journal, options->input);
-    if (work->is_new)
-        journal_keep(&work->input);
-    return GOES_ON;
+    return left_look(work);
 }
 
-void work_close(struct work *work)
+void work_close(struct work *work, enum fate fate)
 {
+    keep_end(&work->keeper, fate == EXIT || fate == SAVED || fate == END_OF_COMMANDS);
     journal_free(&work->journal);
-    past_free();
     teco_close(&work->session);
     teco_stopper_close(&work->asked);
     teco_stopper_close(&work->asks);
@@ -94,36 +83,43 @@ static void follow(struct work *work, size_t before)
         journal_move(&work->journal, work->journal.cursor + now - before);
 }
 
-/* Asks for so many undos or redos, and stops at the first that is refused. */
-static uint8_t repeat(struct work *work, uint8_t (*call)(struct teco *), uint64_t times)
+static const uint8_t *const NO_TEXT = (const uint8_t *)"";
+
+/* Asks for so many undos or redos, keeps them, and stops at the first that is refused. */
+static uint8_t repeat(struct work *work, uint8_t kind, uint64_t times)
 {
     uint8_t code = 0;
     size_t before = 0;
     (void)teco_cursor(&work->session, &before);
-    while (code == 0 && times > 0) {
-        code = call(&work->session);
-        times--;
+    for (uint64_t i = 0; code == 0 && i < times; i++) {
+        code = kind == TECO_UNDID ? teco_undo(&work->session) : teco_redo(&work->session);
+        if (code == 0)
+            keep_add(&work->keeper, kind, 0, NO_TEXT, 0);
     }
+    keep_sync(&work->keeper);
     follow(work, before);
     return code;
 }
 
 uint8_t work_undo(struct work *work, uint64_t times)
 {
-    return repeat(work, teco_undo, times);
+    return repeat(work, TECO_UNDID, times);
 }
 
 uint8_t work_redo(struct work *work, uint64_t times)
 {
-    return repeat(work, teco_redo, times);
+    return repeat(work, TECO_REDID, times);
 }
 
 uint8_t work_rewind(struct work *work, uint64_t steps)
 {
     uint8_t code = teco_rewind(&work->session, steps);
-    if (code == 0)
-        journal_rewind(&work->journal, steps);
-    return code;
+    if (code != 0)
+        return code;
+    keep_add(&work->keeper, TECO_REWOUND, steps, NO_TEXT, 0);
+    keep_sync(&work->keeper);
+    journal_rewind(&work->journal, steps);
+    return 0;
 }
 
 void work_run(struct work *work, const uint8_t *text, size_t n, uint64_t limit, const struct teco_stopper *asked, struct told *told)
@@ -150,8 +146,11 @@ static void run(struct work *work, const uint8_t *text, size_t n, struct told *t
     work_run(work, text, n, limit, &work->asked, told);
     tty_unwatch();
     told->is_broken_off = told->code == TECO_LIM && told->steps < limit;
-    if (told->code != TECO_NOT_BEGUN && told->code != TECO_END)
+    if (told->code != TECO_NOT_BEGUN && told->code != TECO_END) {
+        keep_add(&work->keeper, TECO_RAN, told->steps, text, n);
+        keep_sync(&work->keeper);
         journal_note(&work->journal, text, n, told->code, told->steps);
+    }
     (void)past_add(text, n > 0 && text[n - 1] == ESCAPE ? n - 1 : n);
 }
 
@@ -165,7 +164,7 @@ struct told work_do(struct work *work, const uint8_t *text, size_t n)
     case '~': told.code = work_rewind(work, number); break;
     default: run(work, text, n, &told);
     }
-    journal_want(&work->journal, work_has_edits(work));
+    work_want(work);
     return told;
 }
 
@@ -232,6 +231,13 @@ bool work_has_edits(struct work *work)
     return work->is_saved && place < work->saved_place && !is_of_base(work, teco_input, place, &at);
 }
 
+void work_want(struct work *work)
+{
+    bool is_wanted = work_has_edits(work);
+    journal_want(&work->journal, is_wanted);
+    keep_want(&work->keeper, is_wanted);
+}
+
 bool work_is_over_input(const struct work *work)
 {
     char *input = realpath(work->options->input, NULL), *output = realpath(work->output, NULL);
@@ -262,6 +268,8 @@ static void note_written(struct work *work, const struct content *content)
 
 void work_tell(const struct work *work)
 {
+    if (work->keeper.note[0] != '\0')
+        (void)fprintf(stderr, "%s\n", work->keeper.note);
     if (work->wrote[0] != '\0')
         (void)fprintf(stderr, "%s\n", work->wrote);
 }
@@ -299,7 +307,7 @@ enum fate work_write(struct work *work, char *why, size_t size)
     if (fate == EXIT)
         return EXIT;
     (void)work_undo(work, 1);
-    journal_want(&work->journal, work_has_edits(work));
+    work_want(work);
     return fate == CHANGED_FILE ? CHANGED_FILE : GOES_ON;
 }
 

@@ -1,10 +1,10 @@
 /*
  * terminal.h - what the programs for a person at a terminal share: teco-term, and teco-screen of frontends/screen
  *
- * term-options.c reads the line of a program, and says how it ended. term-work.c does what a string asks, over a session; term-journal.c
- * keeps the strings, and leaves them in a file where the program is ended; term-save.c writes what an exit would, and goes on; term-past.c
- * keeps all that were ever run, so that they come back
- * as text. term-codes.c has the sentences of the codes. term-file.c reads
+ * term-options.c reads the line of a program, and says how it ended. term-work.c does what a string asks, over a session; term-keep.c keeps
+ * the session in a file, and term-left.c goes on with one that was left; term-journal.c has the strings for the screen; term-save.c writes
+ * what an exit would, and goes on; term-past.c keeps all that were ever run, so that they come back as text. term-codes.c has the sentences
+ * of the codes. term-file.c reads
  * INPUT and writes the output; term-tty.c sets the terminal, and term-read.c reads it, also while a string runs; term-keys.c tells keys,
  * sequences and pastes apart. line-edit.c has the string that is typed, and line-recall.c brings back those before.
  */
@@ -32,7 +32,7 @@ enum { BELL = 7, TAB = 9, LINE_FEED = 10, RETURN = 13, ESCAPE = 27, DELETE = 127
 
 /* How the program ends, where it doesn't go on. */
 enum fate {
-    GOES_ON, EXIT, SAVED, END_OF_COMMANDS, NO_INPUT, LARGE_INPUT, NO_OUTPUT, CHANGED_FILE, NO_TERMINAL, POOR_TERMINAL, READ_FAULT, SHOW_FAULT,
+    GOES_ON, EXIT, SAVED, END_OF_COMMANDS, TERMINAL_GONE, NO_INPUT, LARGE_INPUT, NO_OUTPUT, CHANGED_FILE, NO_TERMINAL, POOR_TERMINAL, READ_FAULT, SHOW_FAULT,
     NO_MEMORY
 };
 
@@ -106,13 +106,11 @@ bool file_is_same(const struct stat *one, const struct stat *other);
 
 /* THE STRINGS OF A SESSION */
 
-/* A string that was run: where its text ends among all of them, how it ended, whether it has to be cut off after its steps, and whether it
-   was broken off before its limit. */
+/* A string that was run: where its text ends among all of them, and how it ended. */
 struct kept {
     size_t end;
     uint64_t steps;
     uint8_t code;
-    bool is_cut, is_broken_off;
 };
 
 /* The strings, so many of which are not undone. All zero there are none. */
@@ -120,7 +118,6 @@ struct journal {
     struct bytes texts;
     struct kept *strings;
     size_t count, room, cursor;
-    uint64_t limit;
     bool is_wanted; /* something would be lost, if the program were ended now */
 };
 
@@ -139,13 +136,55 @@ void journal_free(struct journal *journal);
 /* The text of string i. */
 const uint8_t *journal_text(const struct journal *journal, size_t i, size_t *n);
 
-/* From now on journal_leave writes this one: beside INPUT, as a source that tecol reads. It may be called by a signal's handler. */
-void journal_watch(const struct journal *journal, const char *input);
+/* THE FILE OF A SESSION */
 
-/* INPUT isn't there, or has other bytes now than these: they are left beside the strings. They stay until the journal is freed. */
-void journal_keep(const struct bytes *input);
+/* Room for a sentence that tells what was written, or of the file. */
+enum { WROTE = 300 };
 
-void journal_leave(void);
+/* The file. Without one its place is -1. */
+struct keeper {
+    int file;              /* which is open and held, */
+    char *name, *aside;    /* its name, and that under which it is set aside, if that is known */
+    struct teco_line line; /* what was written last, */
+    struct bytes room;     /* and room for what comes next */
+    bool is_shared;        /* another program edits the same file */
+    bool has_failed;       /* nothing more is written to it */
+    char note[WROTE];      /* what there is to tell a person */
+};
+
+/* Opens the file of a session over INPUT, and holds it: one that was left, or a new one; beside INPUT, or else in the folder for states. */
+void keep_open(struct keeper *keeper, const char *input, bool is_beside);
+
+/* What the file has, and when that was written. Without a file nothing. GOES_ON, NO_INPUT, LARGE_INPUT or NO_MEMORY. */
+enum fate keep_read(const struct keeper *keeper, struct bytes *to, time_t *when);
+
+/* Begins the file anew over n bytes of INPUT, or goes on behind what was read of it. */
+void keep_begin(struct keeper *keeper, const uint8_t *input, size_t n, size_t depth);
+void keep_go_on(struct keeper *keeper, const struct teco_resumed *resumed);
+
+/* Adds the line of a request. Before its answer is shown, keep_sync waits until all lines outlast a crash of the machine. Where one can't be
+   written, that is told once, and the file stays as it is. */
+void keep_add(struct keeper *keeper, uint8_t kind, uint64_t steps, const uint8_t *text, size_t n);
+void keep_sync(struct keeper *keeper);
+
+/* The name under which the file would be set aside, or its own where none is left; and setting it aside, in place of which there is an
+   empty one then. False where it stays. */
+const char *keep_aside(struct keeper *keeper);
+bool keep_set_aside(struct keeper *keeper);
+
+/* Whether something would be lost without the file: if not, keep_leave takes it away, which a signal's handler may call. */
+void keep_want(const struct keeper *keeper, bool is_wanted);
+void keep_leave(void);
+
+/* A copy of the process doesn't hold the file. */
+void keep_forget(void);
+
+/* Closes the file; takes it away where it is dropped, or nothing would be lost. */
+void keep_end(struct keeper *keeper, bool is_dropped);
+
+/* What there is to tell of the file: false where there is nothing. And whether any file of this process could not be written. */
+bool keep_tells(struct keeper *keeper, char *text, size_t size);
+bool keep_has_failed(void);
 
 /* THE STRINGS THAT CAN COME BACK AS TEXT */
 
@@ -163,8 +202,8 @@ void past_free(void);
 /* The most bytes that a string may type: memory that is not written to costs none. */
 enum { ROOM = 64 << 20 };
 
-/* The most calls of macros that are open at once, and room for a sentence that tells what was written. */
-enum { CALLS = 32, WROTE = 300 };
+/* The most calls of macros that are open at once. */
+enum { CALLS = 32 };
 
 /* How a string ended that was run. */
 struct told {
@@ -187,17 +226,32 @@ struct work {
     char *output;             /* the name of the output, */
     char wrote[WROTE];        /* and what was written, or nothing */
     struct journal journal;
-    struct bytes input;       /* what INPUT had, once that is another, */
-    struct bytes saved;       /* and what was saved last, */
+    struct keeper keeper;     /* the file of the session */
+    struct bytes input;       /* what INPUT has, until the session is begun */
+    bool is_left;             /* a session was left, and it is to be asked whether to go on with it; */
+    bool is_same;             /* its input is what INPUT has; */
+    bool is_gone_on;          /* it was gone on with */
+    struct teco_resumed resumed; /* what was told of it, */
+    time_t when;              /* and when it was left */
+    struct bytes saved;       /* what was saved last, or what INPUT has where the session is over another text, */
     size_t saved_place;       /* when so much of INPUT had been read */
     bool is_saved;
     size_t verified;          /* so many bytes of the output are those of INPUT, or of what was saved */
     uint8_t *room;            /* for what a string types */
 };
 
-/* Reads INPUT and opens a session over it. GOES_ON, NO_INPUT, LARGE_INPUT or NO_MEMORY. work_close frees it, whatever this came to. */
+/* Reads INPUT and opens a session over it. GOES_ON, NO_INPUT, LARGE_INPUT or NO_MEMORY. work_close frees it, whatever this came to, and
+   takes the file of the session away where the program has ended so that nothing is lost. */
 enum fate work_open(struct work *work, const struct options *options);
-void work_close(struct work *work);
+void work_close(struct work *work, enum fate fate);
+
+/* Opens a session over INPUT, or one that was left; and asks at the terminal whether to go on with that. GOES_ON, NO_MEMORY, TERMINAL_GONE,
+   READ_FAULT or SHOW_FAULT. */
+enum fate left_look(struct work *work);
+enum fate left_ask(struct work *work);
+
+/* Notes whether something would be lost, if the program were ended now. */
+void work_want(struct work *work);
 
 /* What a string asks that is at most 9 digits, and then a brace or a tilde: that byte, or 0 where it is a command string. Tells how many
    times, or the number of steps. */
@@ -264,11 +318,12 @@ struct marks {
 void tty_drop(void);
 
 /* Sets the terminal for keys. GOES_ON, NO_TERMINAL, or POOR_TERMINAL where it is a dumb one. tty_end gives it back as it was; so does
-   each signal that ends the program, which leaves the journal too, or stops it. */
+   each signal that ends the program or stops it. */
 enum fate tty_begin(const struct marks *marks);
 void tty_end(void);
 
-/* A copy of the process has none of the handlers, and never sets the terminal. Both are called with all signals blocked. */
+/* A copy of the process has none of the handlers, never sets the terminal, and doesn't hold the file of the session. It is called with all
+   signals blocked. */
 bool tty_block(sigset_t *usual);
 void tty_unblock(const sigset_t *usual);
 void tty_forget(void);

@@ -249,10 +249,8 @@ static enum fate read_keys(struct screen *screen)
     do
         event = tty_take(&screen->pending);
     while (event == CAME && screen->pending.count < LONGEST && screen->pending.count > 1 && tty_wait(-1, &AT_ONCE) == CAME);
-    if (screen->pending.count == 0 && event == ENDED)
-        journal_leave();
     if (screen->pending.count == 0 && event != CAME)
-        return event == ENDED ? END_OF_COMMANDS : READ_FAULT;
+        return event == ENDED ? TERMINAL_GONE : READ_FAULT;
     return receive(screen, false);
 }
 
@@ -330,6 +328,7 @@ enum fate screen_converse(struct screen *screen)
     enum fate fate = GOES_ON;
     bool is_shown = true;
     while (fate == GOES_ON) {
+        (void)keep_tells(&screen->work.keeper, screen->message, sizeof screen->message);
         if (is_shown)
             draw(screen);
         switch (await(screen)) {

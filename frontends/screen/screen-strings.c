@@ -155,7 +155,7 @@ void screen_undo(struct screen *screen, bool is_redo)
 {
     begin_change(screen);
     screen->still.told.code = is_redo ? work_redo(&screen->work, 1) : work_undo(&screen->work, 1);
-    journal_want(&screen->work.journal, work_has_edits(&screen->work));
+    work_want(&screen->work);
     (void)work_steps(&screen->work, &screen->still.told.steps);
     end_change(screen);
 }
@@ -188,7 +188,7 @@ void screen_end_steps(struct screen *screen, bool stays)
     screen->is_stepping = false;
     if (stays && screen->step < screen->steps) {
         screen->still.told.code = work_rewind(&screen->work, screen->step);
-        journal_want(&screen->work.journal, work_has_edits(&screen->work));
+        work_want(&screen->work);
     }
     (void)work_steps(&screen->work, &screen->still.told.steps);
     end_change(screen);

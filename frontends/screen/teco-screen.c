@@ -32,23 +32,27 @@ static const struct program PROGRAM = {
             "\n"
             "ESC ESC keeps a string, EX writes the output and ends the program, and Ctrl-D leaves with nothing written.\n"};
 
-/* The first page is read by a string, which can be undone. */
+/* The first page is read by a string, which can be undone; but not where a session that was left is gone on with. */
 static enum fate edit_on_screen(struct screen *screen)
 {
+    enum fate fate = left_ask(&screen->work);
+    if (fate != GOES_ON)
+        return fate;
     if (!draw_begin())
         return POOR_TERMINAL;
     draw_anew();
-    if (screen->work.size > 0)
+    screen->still.told.at = TECO_NOWHERE;
+    if (screen->work.is_gone_on)
+        (void)work_steps(&screen->work, &screen->still.told.steps);
+    else if (screen->work.size > 0)
         screen->still.told = work_do(&screen->work, (const uint8_t *)"Y", 1);
-    else
-        screen->still.told.at = TECO_NOWHERE;
     if (screen->work.is_new)
         (void)snprintf(screen->message, sizeof screen->message, "a new file  (F1 for help)");
     screen_look(screen);
     return screen_converse(screen);
 }
 
-/* Sets the terminal, and gives it back when the editing is over. Where it went away, the strings are left. */
+/* Sets the terminal, and gives it back when the editing is over. */
 static enum fate edit_at_terminal(struct screen *screen)
 {
     struct marks marks = {.begin = "", .end = ""};
@@ -56,8 +60,6 @@ static enum fate edit_at_terminal(struct screen *screen)
     enum fate fate = tty_begin(&marks);
     if (fate == GOES_ON)
         fate = is_known ? edit_on_screen(screen) : POOR_TERMINAL;
-    if (fate != EXIT && fate != END_OF_COMMANDS)
-        journal_leave();
     tty_end();
     return fate;
 }
@@ -72,7 +74,7 @@ static enum fate edit(const struct options *options)
         preview_close(&screen.preview);
     }
     work_tell(&screen.work);
-    work_close(&screen.work);
+    work_close(&screen.work, fate);
     bytes_free(&screen.line.text);
     bytes_free(&screen.pending);
     lines_forget();

@@ -41,16 +41,16 @@ static enum fate say_output(const struct work *work)
     return shown(tty_say(work->is_new ? "a new file: EX writes " : "EX writes ") && tty_say(work->output) && tty_say("\r\n"));
 }
 
-/* Sets the terminal, and gives it back when the editing is over. Where it went away, the strings are left. */
+/* Sets the terminal, and gives it back when the editing is over. */
 static enum fate edit_at_terminal(struct editor *editor)
 {
     enum fate fate = tty_begin(&MARKS);
     if (fate == GOES_ON)
+        fate = left_ask(&editor->work);
+    if (fate == GOES_ON)
         fate = say_output(&editor->work);
     if (fate == GOES_ON)
         fate = converse(editor);
-    if (fate != EXIT && fate != END_OF_COMMANDS)
-        journal_leave();
     tty_end();
     bytes_free(&editor->line.text);
     bytes_free(&editor->last);
@@ -64,7 +64,7 @@ static enum fate edit(const struct options *options)
     if (fate == GOES_ON)
         fate = edit_at_terminal(&editor);
     work_tell(&editor.work);
-    work_close(&editor.work);
+    work_close(&editor.work, fate);
     return fate;
 }
 

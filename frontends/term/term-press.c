@@ -187,19 +187,28 @@ static enum event read_keys(struct editor *editor, struct bytes *together)
     return together->count > 0 ? CAME : event;
 }
 
+/* Shows the string as it is now; and before that what there is to tell of the session's file. */
+static enum fate show_line(struct editor *editor)
+{
+    char note[WROTE];
+    if (keep_tells(&editor->work.keeper, note, sizeof note) && !(tty_say(note) && tty_say("\r\n")))
+        return SHOW_FAULT;
+    return line_show(&editor->line, &editor->drawing);
+}
+
 enum fate converse(struct editor *editor)
 {
     struct bytes together = {0};
-    enum fate fate = line_show(&editor->line, &editor->drawing);
+    enum fate fate = show_line(editor);
     while (fate == GOES_ON) {
         switch (read_keys(editor, &together)) {
         case CAME: fate = keys_receive(&editor->keys, &editor->line, &together, &TAKER, editor); break;
         case RESUMED: fate = resume(editor); break;
-        case ENDED: fate = END_OF_COMMANDS; journal_leave(); break;
+        case ENDED: fate = TERMINAL_GONE; break;
         default: fate = READ_FAULT;
         }
         if (fate == GOES_ON)
-            fate = line_show(&editor->line, &editor->drawing);
+            fate = show_line(editor);
     }
     bytes_free(&together);
     return fate;

@@ -6,11 +6,8 @@ import os
 import pty
 import re
 import select
-import shlex
 import signal
 import struct
-import subprocess
-import tempfile
 import termios
 import time
 import unicodedata
@@ -19,38 +16,23 @@ from pathlib import Path
 PATIENCE = float(os.environ.get("PATIENCE", "20"))  # seconds to wait for what has to come
 QUIET = 0.05  # and for what must not
 
-# What a source takes for something else where it is not marked: dollars, carets, two exclamation marks, and blanks at both ends of lines.
+# What a line of a session's file has to spell: line ends, dollars, carets, two exclamation marks, blanks at both ends of lines, and other bytes.
 HARD_LINES = (
     b"line one", b"costs 5$ each", b"x^2 ^up ^^ ^", b"!! no comment", b" !! nor this", b"a!!b !!!! ! !!", b"   three blanks before",
     b"two behind  ", b" ", b"", b"\ta tab before", b"#! no script", b"THIS INPUT", b"a\x00\x01\x1f\x7f\x80\xff", "\u00e9\u65e5".encode(), b"  ",
 )
 
 
-def built(name):
-    """A program of ours: the one that the environment names, as by TECO=FILE, or one that is built here."""
-    top = Path(__file__).resolve().parent.parent.parent
-    named = os.environ.get(name.upper())
-    files = [Path(named)] if named else [top / "out" / name, top / "crates" / name / "out" / name]
-    found = next((it.resolve() for it in files if it.exists()), None)
-    assert found is not None, f"the program {name} is not there: {name.upper()}=FILE names it"
-    return found
-
-
-def made_again(name="in.teco-strings"):
-    """The text and what is typed where a shell runs the line that the file of this name has in its first line, with its two names put in.
-    INPUT is `in`."""
-    said = re.match(rb"!! .*: (tecol? .*)\n", Path(name).read_bytes())
-    assert said is not None, Path(name).read_bytes()
-    line = re.sub(r"\bTHIS\b", shlex.quote(name), re.sub(r"\bINPUT\b", "in", said.group(1).decode()))
-    with tempfile.TemporaryDirectory() as programs:
-        for program in "teco", "tecol":
-            Path(programs, program).symlink_to(built(program))
-        path = programs + os.pathsep + os.environ["PATH"]
-        done = subprocess.run(["sh", "-c", line], env={**os.environ, "PATH": path}, stdin=subprocess.DEVNULL, capture_output=True)
-    assert (done.returncode, done.stderr) == (0, b""), (line, done)
-    made = Path("in.out").read_bytes()
-    os.remove("in.out")
-    return made, done.stdout
+def file_is_free(name="in.teco-session"):
+    """Waits until no process holds a session's file."""
+    with open(name, "rb") as file:
+        end = time.monotonic() + PATIENCE
+        while True:
+            try:
+                return fcntl.flock(file, fcntl.LOCK_EX | fcntl.LOCK_NB)
+            except BlockingIOError:
+                assert time.monotonic() < end, f"{name} is held"
+                time.sleep(0.02)
 
 
 class Screen:
@@ -329,5 +311,29 @@ class Terminal:
         return self.is_given_back()
 
     def dies(self, number):
+        """By SIGKILL it can't give the terminal back."""
         assert self.reported("signal") == str(int(number)), f"it is not ended by signal {number}"
-        return self.is_given_back()
+        return self if number == signal.SIGKILL else self.is_given_back()
+
+    def loses_its_terminal(self):
+        """Closes the terminal, and waits until the program has ended over a file `in`."""
+        os.close(self.master)
+        self.master = os.open("/dev/null", os.O_RDWR)
+        file_is_free()
+
+    def asks(self):
+        """Waits until the program asks whether to go on with a session that was left. The sentences."""
+        end = time.monotonic() + PATIENCE
+        while "another key begins anew" not in self.screen.text() and time.monotonic() < end:
+            self.read(0.2)
+        self.drains()
+        assert "another key begins anew" in self.screen.text(), f"it doesn't ask; seen:\n{self.screen.text()}"
+        return " ".join(line.strip() for line in self.screen.text().split("\n"))
+
+    def exits(self):
+        """What EX writes of the file `in`, of which nothing is left then."""
+        self.types(b"EX\x1b\x1b").ends(0)
+        written = Path("in.out").read_bytes()
+        os.remove("in.out")
+        assert not Path("in.teco-session").exists()
+        return written
