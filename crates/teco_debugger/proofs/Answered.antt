@@ -18,21 +18,22 @@ shows_help (Ok done) d old new rows all none e = (refl, (rows, all, e ∙ ap (λ
 shows_help (Err fault) d old new rows all none e = tt
 
 -- where it arrives from a debugger with other moves
-pub arrives_from : {n : ℕ} {new : Debugger} {shown : List ℕ} (old mid : Debugger) → mid.walk ≡ old.walk → mid.limit ≡ old.limit → mid.stop ≡ old.stop → mid.sources ≡ old.sources
+pub arrives_from : {n : ℕ} {new : Debugger} {shown : List ℕ} (old mid : Debugger) → mid.walk ≡ old.walk → mid.limit ≡ old.limit → mid.stops ≡ old.stops → mid.again ≡ old.again → mid.sources ≡ old.sources
     → Arrives n mid new shown → Arrives n old new shown
-arrives_from {n} {new} {shown} old mid walk limit stop sources a = record {
+arrives_from {n} {new} {shown} old mid walk limit stops again sources a = record {
   goes = subst (λ w. Goes n w new.walk) walk a.goes;
   there = a.there;
   there_is = a.there_is;
   shown_is = a.shown_is;
   sources = a.sources ∙ sources;
   limit = a.limit ∙ limit;
-  stop = a.stop ∙ stop;
+  stops = a.stops ∙ stops;
+  again = a.again ∙ again;
 }
 
 -- where it arrives once a move was kept
-pub moves_from : {A E : Type 0} (r : Result A E) (n : ℕ) (old mid new : Debugger) (shown : List ℕ) → mid.walk ≡ old.walk → mid.limit ≡ old.limit → mid.stop ≡ old.stop → mid.sources ≡ old.sources
+pub moves_from : {A E : Type 0} (r : Result A E) (n : ℕ) (old mid new : Debugger) (shown : List ℕ) → mid.walk ≡ old.walk → mid.limit ≡ old.limit → mid.stops ≡ old.stops → mid.again ≡ old.again → mid.sources ≡ old.sources
     → mid.moves.items ≡ old.moves.items ++ old.walk.steps ∷ [] → new.moves ≡ mid.moves → OnOk r (Arrives n mid new shown) → OnOk r (MovesTo n old new shown)
-moves_from (Ok done) n old mid new shown walk limit stop sources kept same a =
-    record { arrives = arrives_from old mid walk limit stop sources a; kept = ap (λ m. m.items) same ∙ kept }
-moves_from (Err fault) n old mid new shown walk limit stop sources kept same a = tt
+moves_from (Ok done) n old mid new shown walk limit stops again sources kept same a =
+    record { arrives = arrives_from old mid walk limit stops again sources a; kept = ap (λ m. m.items) same ∙ kept }
+moves_from (Err fault) n old mid new shown walk limit stops again sources kept same a = tt

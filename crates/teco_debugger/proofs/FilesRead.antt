@@ -85,8 +85,8 @@ lacks_source files new names number name source is had ShowFault h = absurd h
 
 pub begins_over : (files mid : Option Files) (line : DebuggerLine) (debugger : Debugger) (walk : KeptWalk) (given : Given) (input : List ℕ) → mid ≡ files
     → IsStringOf files line.origin given → IsInputOf mid line.input input → walk.text ≡ given.text.items → walk.input ≡ input → walk.steps ≡ 0
-    → debugger.walk ≡ walk → debugger.limit ≡ line.limit → debugger.moves.items ≡ [] → debugger.stop ≡ None → debugger.sources ≡ given.sources → BeginsOver files line debugger
-begins_over files mid line debugger walk given input same g i walk_text walk_input walk_steps is limit moves stop sources = record {
+    → debugger.walk ≡ walk → debugger.limit ≡ line.limit → debugger.moves.items ≡ [] → debugger.stops.items ≡ [] → debugger.again ≡ None → debugger.sources ≡ given.sources → BeginsOver files line debugger
+begins_over files mid line debugger walk given input same g i walk_text walk_input walk_steps is limit moves stops again sources = record {
   given = given;
   given_is = g;
   text = ap (λ w. w.text) is ∙ walk_text;
@@ -95,5 +95,6 @@ begins_over files mid line debugger walk given input same g i walk_text walk_inp
   steps = ap (λ w. w.steps) is ∙ walk_steps;
   limit = limit;
   moves = moves;
-  stop = stop;
+  stops = stops;
+  again = again;
 }

@@ -17,3 +17,4 @@ pub mod Watched
 pub mod Shown
 pub mod Carets
 pub mod NumberedLines
+pub mod StopLines

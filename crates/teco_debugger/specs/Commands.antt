@@ -1,6 +1,6 @@
 -- The commands: how each is spelled, what a line asks, what each does, and what is shown of it.
-use Rattle.std.specs.Prelude.{◌≡◌, ◌⊎◌, ℕ, suc, ◌+◌, ◌-◌, min, nat_eq, nat_le, Bool, true, false, ◌||◌, ◌==◌, not, if◌then◌else◌, List, [], ◌∷◌, ◌++◌, length, map, take, drop, slice_get, codes, Option, Some, None, Result, Ok, Err}
-use Rattle.std.specs.List.{prefix_len, suffix_len}
+use Rattle.std.specs.Prelude.{◌≡◌, ◌⊎◌, ℕ, suc, ◌+◌, ◌-◌, min, nat_eq, nat_le, nat_lt, Bool, true, false, ◌&&◌, ◌||◌, ◌==◌, not, if◌then◌else◌, List, [], ◌∷◌, ◌++◌, length, map, take, drop, slice_get, codes, Option, Some, None, Result, Ok, Err}
+use Rattle.std.specs.List.{prefix_len, remove, suffix_len}
 use Rattle.std.specs.Fmt.{decimal}
 use Rattle.std.specs.String.{string_bytes}
 use Prim.Native.Char.{code}
@@ -9,12 +9,13 @@ use Rattle.teco_core.specs.Ascii.{upper}
 use Rattle.teco_core.specs.Register.{register_of}
 use Rattle.teco_messages.specs.Spelling.{spelled}
 use Rattle.teco_debugger.specs.Around.{around_at}
+use Rattle.teco_debugger.specs.Breaks.{stops_shown}
 use Rattle.teco_debugger.specs.Number.{number_in}
 use Rattle.teco_debugger.specs.Finding.{last_change}
 use Rattle.teco_debugger.specs.Walk.{KeptWalk, meant, state_there}
 use Rattle.teco_debugger.specs.Help.{help_shown}
 use Rattle.teco_debugger.specs.Listing.{lines_there_shown, registers_shown, state_shown, whole_register}
-use Rattle.teco_debugger.specs.Moving.{Arrives, IsFound, MovesTo, SameRun, line_stop}
+use Rattle.teco_debugger.specs.Moving.{Arrives, Goal, IsFound, MovesTo, SameRun, calls_of, goal, line_stop}
 use Rattle.teco_debugger.specs.Showing.{step_at, where_at}
 use Rattle.teco_debugger.specs.Sources.{IsShownAt}
 use Rattle.teco_debugger.specs.Watching.{IsNearestOther}
@@ -22,7 +23,7 @@ use Rattle.teco_debugger.specs.declared.sources.SourceText.{SourceText}
 use Rattle.teco_debugger.specs.declared.command.DebuggerCommand.{DebuggerCommand}
 use Rattle.teco_debugger.specs.declared.command.DebuggerCommand.TheVariants as command
 use Rattle.teco_debugger.specs.declared.command.CommandFault.{CommandFault}
-use Rattle.teco_debugger.specs.declared.command.CommandFault.TheVariants.{NoCommand, NoNumber, NoRegister, NoPlace, NoSource, NoWatch, TooMuch}
+use Rattle.teco_debugger.specs.declared.command.CommandFault.TheVariants.{NoCommand, NoNumber, NoRegister, NoPlace, NoSource, NoWatch, TooMuch, NoneBefore}
 use Rattle.teco_debugger.specs.declared.part.Part.{Part}
 use Rattle.teco_debugger.specs.declared.part.Part.TheVariants as part
 use Rattle.teco_debugger.specs.declared.stops.Found.{Found}
@@ -58,7 +59,8 @@ abbrev pub verb_by : VerbRow → Verb
 verb_by row = named row.word.now row.letter.now row.takes
 
 -- the commands; a letter is the first of its word that no word above it has taken. All of those of `watch` are, so it has the d of
--- `differs`. `list` leaves the l to `until`, and has the v of `view`.
+-- `differs`. `list` leaves the l to `until`, and has the v of `view`. `delete` has the x that crosses out, and
+-- `finish` the o of `out`.
 abbrev pub verbs : List Verb
 verbs = named (codes "next") (codes "n") (NumberOr counted.Next 1)
     ∷ named (codes "back") (codes "b") (NumberOr counted.Back 1)
@@ -73,7 +75,9 @@ verbs = named (codes "next") (codes "n") (NumberOr counted.Next 1)
     ∷ named (codes "state") (codes "a") (Nothing plain.State)
     ∷ named (codes "find") (codes "f") ThePart
     ∷ named (codes "break") (codes "k") TheStop
+    ∷ named (codes "delete") (codes "x") (Number counted.Delete)
     ∷ named (codes "continue") (codes "c") (Nothing plain.Continue)
+    ∷ named (codes "finish") (codes "o") (Nothing plain.Finish)
     ∷ named (codes "typed") (codes "y") (Nothing plain.Typed)
     ∷ named (codes "undo") (codes "u") (NumberOr counted.Undo 1)
     ∷ named (codes "until") (codes "l") (Number counted.Until)
@@ -173,6 +177,14 @@ stop_by sources bytes (Ok last) =
 abbrev pub stop_in : List SourceText → List ℕ → Result Stop CommandFault
 stop_in sources bytes = stop_by sources bytes (number_in (drop (last_piece bytes) bytes))
 
+abbrev pub break_at : Stop → DebuggerCommand
+break_at stop = command.Break stop
+
+-- such a place to stop at, or the list of them
+abbrev pub stop_or_list : List SourceText → List ℕ → Result DebuggerCommand CommandFault
+stop_or_list sources [] = Ok (command.Plain plain.Breaks)
+stop_or_list sources (b ∷ bytes) = given break_at (stop_in sources (b ∷ bytes))
+
 -- the register of this name, to be watched
 abbrev pub watched_register : ℕ → Result Watch CommandFault
 watched_register b = elim (register_of b) [ Some q ↦ Ok (watch.Register q) | None ↦ Err NoWatch ]
@@ -206,9 +218,6 @@ watch_in bytes = watch_from (watched_in (word_in bytes)) (way_in (after_word byt
 abbrev pub find : Part → DebuggerCommand
 find part = command.Find part
 
-abbrev pub break_at : Stop → DebuggerCommand
-break_at stop = command.Break stop
-
 -- the command that takes this, with these bytes after its word
 abbrev pub command_in : List SourceText → Takes → List ℕ → Result DebuggerCommand CommandFault
 command_in sources (Nothing plain) bytes = alone (command.Plain plain) bytes
@@ -216,7 +225,7 @@ command_in sources (Number counted) bytes = given (command.Counted counted) (num
 command_in sources (NumberOr counted otherwise) bytes = given (command.Counted counted) (number_or otherwise bytes)
 command_in sources Register bytes = given command.Register (register_in bytes)
 command_in sources ThePart bytes = given find (part_in bytes)
-command_in sources TheStop bytes = given break_at (stop_in sources bytes)
+command_in sources TheStop bytes = stop_or_list sources bytes
 command_in sources TheWatch bytes = watch_in bytes
 
 abbrev pub command_by : List SourceText → Option Takes → List ℕ → Result DebuggerCommand CommandFault
@@ -229,6 +238,34 @@ command_of sources line =
     let bytes = without_blanks_before (without_blanks_after line) in
     command_by sources (taken verbs (word_in bytes)) (after_word bytes)
 
+-- a line of blanks alone
+abbrev pub is_empty_line : List ℕ → Bool
+is_empty_line line = length (without_blanks_after line) == 0
+
+-- the last command, to be done again
+abbrev pub or_none_before : Option DebuggerCommand → Result DebuggerCommand CommandFault
+or_none_before (Some last) = Ok last
+or_none_before None = Err NoneBefore
+
+-- what a line asks of a debugger: an empty one asks for the last command again
+abbrev pub asked : Debugger → List ℕ → Result DebuggerCommand CommandFault
+asked debugger line = if is_empty_line line then or_none_before debugger.again else command_of debugger.sources.items line
+
+-- the command that an empty line after this one asks for: the same, if it moves or shows
+abbrev pub again_after : DebuggerCommand → Option DebuggerCommand
+again_after (command.Break stop) = None
+again_after (command.Plain plain) = Some (command.Plain plain)
+again_after (command.Counted counted.Delete n) = None
+again_after (command.Counted counted n) = Some (command.Counted counted n)
+again_after (command.Register q) = Some (command.Register q)
+again_after (command.Find part) = Some (command.Find part)
+again_after (command.Watch watched way) = Some (command.Watch watched way)
+
+-- the debugger once it is noted what a line asked
+abbrev pub noted : Result DebuggerCommand CommandFault → Debugger → Debugger
+noted (Ok done) old = record old { again = again_after done }
+noted (Err fault) old = old
+
 -- what is said of a line that is no command
 abbrev pub words_of : CommandFault → List ℕ
 words_of NoCommand = codes "no such command; help lists them"
@@ -238,6 +275,7 @@ words_of NoPlace = codes "a place is wanted, as LINE, LINE:COLUMN or FILE:LINE"
 words_of NoSource = codes "no source has this name"
 words_of NoWatch = codes "a register, . or Z is wanted, and then back or nothing"
 words_of TooMuch = codes "nothing is wanted after this command"
+words_of NoneBefore = codes "no command to do again"
 
 -- a line that ends by LF
 abbrev pub answer_line : List ℕ → List ℕ
@@ -288,18 +326,57 @@ far_line n = codes "no step before step " ++ decimal n ++ codes " is there, and 
 -- It goes to the step that was found, or says why there is none.
 abbrev pub GoesByFound : Found → Debugger → Debugger → List ℕ → Type 0
 GoesByFound (At n) old new shown = MovesTo n old new shown
-GoesByFound Nowhere old new shown = OnlyShows (answer_line (codes "no step at that place comes")) old new shown
+GoesByFound Nowhere old new shown = OnlyShows (answer_line (codes "no such step comes")) old new shown
 GoesByFound (TooFar n) old new shown = OnlyShows (far_line n) old new shown
 
--- It goes on to the next step that is there, if such a step comes.
-abbrev pub GoesOnTo : Stop → Debugger → Debugger → List ℕ → Type 0
-GoesOnTo stop old new shown =
-    (found : Found) × IsFound old.sources.items old.walk stop (old.walk.steps + 1) old.limit found × GoesByFound found old new shown
+-- It goes on to the next step where it is to stop, if such a step comes.
+abbrev pub GoesOnTo : Goal → Debugger → Debugger → List ℕ → Type 0
+GoesOnTo goal old new shown =
+    (found : Found) × IsFound old.sources.items old.walk goal (old.walk.steps + 1) old.limit found × GoesByFound found old new shown
 
--- It goes on to the next step at the place to stop at, if one is noted and such a step comes.
-abbrev pub GoesOnToStop : Option Stop → Debugger → Debugger → List ℕ → Type 0
-GoesOnToStop None old new shown = OnlyShows (answer_line (codes "no place to stop at is noted")) old new shown
-GoesOnToStop (Some stop) old new shown = GoesOnTo stop old new shown
+-- The same, unless none is noted.
+abbrev pub GoesOnUnless : Bool → List Stop → Debugger → Debugger → List ℕ → Type 0
+GoesOnUnless true stops old new shown = OnlyShows (answer_line (codes "no place to stop at is noted")) old new shown
+GoesOnUnless false stops old new shown = GoesOnTo (goal stops 0) old new shown
+
+-- It goes on to the next step at a place to stop at, if one is noted and such a step comes.
+abbrev pub GoesOnToStop : List Stop → Debugger → Debugger → List ℕ → Type 0
+GoesOnToStop stops old new shown = GoesOnUnless (length stops == 0) stops old new shown
+
+-- So many calls are open where the walk stands.
+abbrev pub HasOpenCalls : List SourceText → KeptWalk → ℕ → Type 0
+HasOpenCalls sources walk n = (there : Shown) × IsShownAt sources walk walk.steps there × (n ≡ calls_of there.seen.place)
+
+abbrev pub FinishesUnless : Bool → ℕ → Debugger → Debugger → List ℕ → Type 0
+FinishesUnless true calls old new shown = OnlyShows (answer_line (codes "no call is open")) old new shown
+FinishesUnless false calls old new shown = GoesOnTo (goal [] calls) old new shown
+
+-- It goes on to the next step with fewer calls open than here, if one is open here.
+abbrev pub Finishes : Debugger → Debugger → List ℕ → Type 0
+Finishes old new shown =
+    (calls : ℕ) × HasOpenCalls old.sources.items old.walk calls × FinishesUnless (calls == 0) calls old new shown
+
+-- These are the places to stop at, and nothing else changes. Nothing is shown.
+pub record NotesStops (stops : List Stop) (old new : Debugger) (shown : List ℕ) : Type 0 where
+  pub stops_are : new.stops.items ≡ stops
+  pub walk : new.walk ≡ old.walk
+  pub limit : new.limit ≡ old.limit
+  pub moves : new.moves ≡ old.moves
+  pub again : new.again ≡ old.again
+  pub sources : new.sources ≡ old.sources
+  pub nothing : shown ≡ []
+
+-- There are places of the numbers from 1 to as many as they are.
+abbrev pub is_number : ℕ → List Stop → Bool
+is_number n stops = nat_lt 0 n && nat_le n (length stops)
+
+abbrev pub DeletesIf : Bool → ℕ → Debugger → Debugger → List ℕ → Type 0
+DeletesIf true n old new shown = NotesStops (remove old.stops.items (n - 1)) old new shown
+DeletesIf false n old new shown = OnlyShows (answer_line (codes "no place to stop at has this number")) old new shown
+
+-- The place of this number is no longer one to stop at, if there is one.
+abbrev pub Deletes : ℕ → Debugger → Debugger → List ℕ → Type 0
+Deletes n old new shown = DeletesIf (is_number n old.stops.items) n old new shown
 
 -- It goes back to before the last change of a part, if one was made.
 abbrev pub FindsChange : Option ℕ → Debugger → Debugger → List ℕ → Type 0
@@ -333,7 +410,9 @@ AnswersPlain plain.Where old new shown = ShowsWhere old new shown
 AnswersPlain plain.Registers old new shown =
     OnlyShows (registers_shown (state_there old.walk).registers) old new shown
 AnswersPlain plain.State old new shown = OnlyShows (state_shown (state_there old.walk)) old new shown
-AnswersPlain plain.Continue old new shown = GoesOnToStop old.stop old new shown
+AnswersPlain plain.Breaks old new shown = OnlyShows (stops_shown old.sources.items old.stops.items) old new shown
+AnswersPlain plain.Continue old new shown = GoesOnToStop old.stops.items old new shown
+AnswersPlain plain.Finish old new shown = Finishes old new shown
 -- all that the string typed so far
 AnswersPlain plain.Typed old new shown =
     OnlyShows (answer_line (spelled (meant old.walk.input old.walk.text old.walk.steps).typed)) old new shown
@@ -349,7 +428,8 @@ AnswersCounted counted.Around n old new shown = ShowsAround n old new shown
 AnswersCounted counted.Text n old new shown = OnlyShows (lines_there_shown (state_there old.walk) n) old new shown
 AnswersCounted counted.Undo n old new shown = TakesBack (moves_left n old.moves.items)
     (slice_get old.moves.items (moves_left n old.moves.items)) old new shown
-AnswersCounted counted.Until n old new shown = GoesOnTo (line_stop n) old new shown
+AnswersCounted counted.Until n old new shown = GoesOnTo (goal (line_stop n ∷ []) 0) old new shown
+AnswersCounted counted.Delete n old new shown = Deletes n old new shown
 
 -- what a command does, and what is shown of it
 abbrev pub AnswersCommand : DebuggerCommand → Debugger → Debugger → List ℕ → Type 0
@@ -359,8 +439,8 @@ AnswersCommand (command.Register q) old new shown =
     OnlyShows (whole_register (state_there old.walk).registers q) old new shown
 AnswersCommand (command.Find part) old new shown = FindsChange (last_change part old.walk.changes) old new shown
 AnswersCommand (command.Watch watched way) old new shown = Watches way watched old new shown
--- the place is noted, and nothing is shown
-AnswersCommand (command.Break stop) old new shown = (new ≡ record old { stop = Some stop }) × (shown ≡ [])
+-- the place is noted behind the others
+AnswersCommand (command.Break stop) old new shown = NotesStops (old.stops.items ++ stop ∷ []) old new shown
 
 -- Memory was refused to the command. That alone is shown, with the step at which the walk then stands.
 pub record TellsNoMemory (old new : Debugger) (shown : List ℕ) : Type 0 where

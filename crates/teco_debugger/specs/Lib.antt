@@ -1,4 +1,5 @@
 pub mod Around
+pub mod Breaks
 pub mod CommandLine
 pub mod Commands
 pub mod Ending

@@ -1,5 +1,5 @@
 -- The moves of a walk, and where it stops on the way.
-use Rattle.std.specs.Prelude.{◌≡◌, ◌⊎◌, ℕ, zero, suc, ◌+◌, ◌≤◌, ◌<◌, ◌==◌, ◌&&◌, Bool, true, false, List, [], ◌∷◌, ◌++◌, length, nat_le, Option, Some, None}
+use Rattle.std.specs.Prelude.{◌≡◌, ◌⊎◌, ℕ, zero, suc, ◌+◌, ◌≤◌, ◌<◌, ◌==◌, ◌&&◌, ◌||◌, Bool, true, false, List, [], ◌∷◌, ◌++◌, length, nat_le, nat_lt, if◌then◌else◌, Option, Some, None}
 use Rattle.teco_exec.specs.declared.place.Place.{Place}
 use Rattle.teco_messages.specs.Spot.{spot_of}
 use Rattle.teco_messages.specs.declared.spot.Spot.{Spot}
@@ -33,8 +33,10 @@ pub record Arrives (n : ℕ) (old new : Debugger) (shown : List ℕ) : Type 0 wh
   pub shown_is : shown ≡ step_at new.sources.items new.walk there
   pub sources : new.sources ≡ old.sources
   pub limit : new.limit ≡ old.limit
-  -- the place to stop at
-  pub stop : new.stop ≡ old.stop
+  -- the places to stop at
+  pub stops : new.stops ≡ old.stops
+  -- the command that an empty line asks for
+  pub again : new.again ≡ old.again
 
 -- The same, as a move that can be taken back: where the walk stood is kept.
 pub record MovesTo (n : ℕ) (old new : Debugger) (shown : List ℕ) : Type 0 where
@@ -55,52 +57,73 @@ abbrev pub is_there : Stop → ℕ → Spot → Bool
 is_there stop number here =
     is_or_any stop.source number && (here.line == stop.line && is_or_any stop.column here.column)
 
--- a place of a run is there in a source, with no call open
-abbrev pub is_at : List ℕ → Stop → ℕ → Place → Bool
-is_at text stop number place =
-    length place.calls.items == 0 && (nat_le place.at (length text) && is_there stop number (spot_of text place.at))
+-- they are one of these places to stop at
+abbrev pub is_one : List Stop → ℕ → Spot → Bool
+is_one [] number here = false
+is_one (stop ∷ stops) number here = if is_there stop number here then true else is_one stops number here
 
-abbrev pub is_stop_if : List ℕ → Stop → ℕ → ℕ → Option Place → Bool
-is_stop_if text stop n number None = false
-is_stop_if text stop n number (Some place) = place.steps == n && is_at text stop number place
+-- where a walk that goes on is to stop: at one of these places, with no call open, or with fewer calls open than so many
+pub record Goal : Type 0 where
+  pub stops : List Stop
+  pub calls : ℕ
 
--- a run that was seen stands there after n steps
-abbrev pub is_stop : List ℕ → Stop → ℕ → Shown → Bool
-is_stop text stop n shown = is_stop_if text stop n shown.number shown.seen.place
+abbrev pub goal : List Stop → ℕ → Goal
+goal stops calls = record { stops = stops; calls = calls }
 
--- The run of the string under a limit of n steps stands at the place to stop at, or not.
-abbrev pub StopsOr : List SourceText → KeptWalk → Stop → ℕ → Bool → Type 0
-StopsOr sources walk stop n so = (shown : Shown) × IsShownAt sources walk n shown
-    × (is_stop (shown_string sources shown.number walk.text) stop n shown ≡ so)
+-- a place of a run is one of these in a source, with no call open
+abbrev pub is_among : List ℕ → List Stop → ℕ → Place → Bool
+is_among text stops number place =
+    length place.calls.items == 0 && (nat_le place.at (length text) && is_one stops number (spot_of text place.at))
 
--- No step from the one to the other, which is not among them, is at the place to stop at.
-abbrev pub PassesBetween : List SourceText → KeptWalk → Stop → ℕ → ℕ → Type 0
-PassesBetween sources walk stop from to = (n : ℕ) → from ≤ n → n < to → StopsOr sources walk stop n false
+abbrev pub is_at : List ℕ → Goal → ℕ → Place → Bool
+is_at text goal number place = nat_lt (length place.calls.items) goal.calls || is_among text goal.stops number place
 
--- The step is the first one from there on that is at the place to stop at.
-pub record IsNextStop (sources : List SourceText) (walk : KeptWalk) (stop : Stop) (from n : ℕ) : Type 0 where
+abbrev pub is_stop_if : List ℕ → Goal → ℕ → ℕ → Option Place → Bool
+is_stop_if text goal n number None = false
+is_stop_if text goal n number (Some place) = place.steps == n && is_at text goal number place
+
+-- a run that was seen stands after n steps where it is to stop
+abbrev pub is_stop : List ℕ → Goal → ℕ → Shown → Bool
+is_stop text goal n shown = is_stop_if text goal n shown.number shown.seen.place
+
+-- how many calls are open there
+abbrev pub calls_of : Option Place → ℕ
+calls_of (Some place) = length place.calls.items
+calls_of None = 0
+
+-- The run of the string under a limit of n steps stands where it is to stop, or not.
+abbrev pub StopsOr : List SourceText → KeptWalk → Goal → ℕ → Bool → Type 0
+StopsOr sources walk goal n so = (shown : Shown) × IsShownAt sources walk n shown
+    × (is_stop (shown_string sources shown.number walk.text) goal n shown ≡ so)
+
+-- No step from the one to the other, which is not among them, is where it is to stop.
+abbrev pub PassesBetween : List SourceText → KeptWalk → Goal → ℕ → ℕ → Type 0
+PassesBetween sources walk goal from to = (n : ℕ) → from ≤ n → n < to → StopsOr sources walk goal n false
+
+-- The step is the first one from there on that is where it is to stop.
+pub record IsNextStop (sources : List SourceText) (walk : KeptWalk) (goal : Goal) (from n : ℕ) : Type 0 where
   pub after : from ≤ n
-  pub here : StopsOr sources walk stop n true
-  pub passed : PassesBetween sources walk stop from n
+  pub here : StopsOr sources walk goal n true
+  pub passed : PassesBetween sources walk goal from n
 
 -- how many steps are run to look at each step below n, each from the beginning
 unfoldable pub work_below : ℕ → ℕ
 work_below zero = 0
 work_below (suc n) = work_below n + n
 
--- No step up to some other one is at the place to stop at, and the way ends there: at the limit, or behind the last step of the string.
-pub record HasNoStop (sources : List SourceText) (walk : KeptWalk) (stop : Stop) (from limit : ℕ) : Type 0 where
+-- No step up to some other one is where it is to stop, and the way ends there: at the limit, or behind the last step of the string.
+pub record HasNoStop (sources : List SourceText) (walk : KeptWalk) (goal : Goal) (from limit : ℕ) : Type 0 where
   pub to : ℕ
-  pub passed : PassesBetween sources walk stop from to
+  pub passed : PassesBetween sources walk goal from to
   pub ends : (limit ≤ to) ⊎ ((meant walk.input walk.text to).steps < to)
 
 -- No step before this one is there, and it takes too much work to look at this one.
-pub record IsTooFar (sources : List SourceText) (walk : KeptWalk) (stop : Stop) (from to : ℕ) : Type 0 where
-  pub passed : PassesBetween sources walk stop from to
+pub record IsTooFar (sources : List SourceText) (walk : KeptWalk) (goal : Goal) (from to : ℕ) : Type 0 where
+  pub passed : PassesBetween sources walk goal from to
   pub work : MOST_WORK + work_below from < work_below (suc to)
 
--- what a look for the next step at the place to stop at comes to
-abbrev pub IsFound : List SourceText → KeptWalk → Stop → ℕ → ℕ → Found → Type 0
-IsFound sources walk stop from limit (At n) = IsNextStop sources walk stop from n
-IsFound sources walk stop from limit Nowhere = HasNoStop sources walk stop from limit
-IsFound sources walk stop from limit (TooFar n) = IsTooFar sources walk stop from n
+-- what a look for the next step where it is to stop comes to
+abbrev pub IsFound : List SourceText → KeptWalk → Goal → ℕ → ℕ → Found → Type 0
+IsFound sources walk goal from limit (At n) = IsNextStop sources walk goal from n
+IsFound sources walk goal from limit Nowhere = HasNoStop sources walk goal from limit
+IsFound sources walk goal from limit (TooFar n) = IsTooFar sources walk goal from n

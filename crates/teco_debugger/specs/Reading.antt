@@ -105,7 +105,7 @@ IsInputOf files (Some name) input = IsInput files (string_bytes name) input
 IsInputOf files None input = input ≡ []
 
 -- The debugger stands before the first step of the line's command string, over the line's input, under its limit. No
--- move is done yet, and no place to stop at is noted.
+-- move is done yet, no place to stop at is noted, and no command is to be done again.
 pub record BeginsOver (files : Option Files) (line : DebuggerLine) (debugger : Debugger) : Type 0 where
   pub given : Given
   pub given_is : IsStringOf files line.origin given
@@ -115,7 +115,8 @@ pub record BeginsOver (files : Option Files) (line : DebuggerLine) (debugger : D
   pub steps : debugger.walk.steps ≡ 0
   pub limit : debugger.limit ≡ line.limit
   pub moves : debugger.moves.items ≡ []
-  pub stop : debugger.stop ≡ None
+  pub stops : debugger.stops.items ≡ []
+  pub again : debugger.again ≡ None
 
 -- The file of this number and name is not read.
 abbrev pub LacksFile : {I : Type 0} → Option Files → DiskSeen I → ℕ → List ℕ → Ending → Type 0

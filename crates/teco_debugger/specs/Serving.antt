@@ -3,7 +3,7 @@ use Rattle.std.specs.Prelude.{◌≡◌, ◌⊎◌, ℕ, zero, suc, List, codes,
 use Rattle.std.specs.Io.BufRead.{DropsThrough, take_through}
 use Rattle.std.specs.Io.KnownBytes.{IsAtEnd}
 use Rattle.teco_io.specs.Terminal.{IsFrontOf, Screen, Shows}
-use Rattle.teco_debugger.specs.Commands.{IsAnswerTo, command_of, is_leaving}
+use Rattle.teco_debugger.specs.Commands.{IsAnswerTo, asked, is_leaving, noted}
 use Rattle.teco_debugger.specs.Moving.{SameRun}
 use Rattle.teco_debugger.specs.declared.debugger.Debugger.{Debugger}
 use Rattle.teco_debugger.specs.declared.ending.Ending.{Ending}
@@ -28,13 +28,13 @@ pub record TakesLine (line : List ℕ) (before after : Option (List ℕ)) : Type
 -- What the debugger does with a line, and how the serving ends by it, if it does.
 abbrev pub Obeys : List ℕ → Option Ending → Debugger → Debugger → Screen → Screen → Type 0
 -- it is answered, and all of the answer is shown
-Obeys line None old new before after = (is_leaving (command_of old.sources.items line) ≡ false)
-    × ((shown : List ℕ) × IsAnswerTo (command_of old.sources.items line) old new shown × Shows before after shown false)
+Obeys line None old new before after = (is_leaving (asked old line) ≡ false)
+    × ((shown : List ℕ) × IsAnswerTo (asked old line) (noted (asked old line) old) new shown × Shows before after shown false)
 -- it asks to leave
 Obeys line (Some Done) old new before after =
-    (is_leaving (command_of old.sources.items line) ≡ true) × (new ≡ old) × (after ≡ before)
+    (is_leaving (asked old line) ≡ true) × (new ≡ old) × (after ≡ before)
 -- a beginning of its answer is shown, and then the terminal failed
-Obeys line (Some ShowFault) old new before after = (shown : List ℕ) × IsAnswerTo (command_of old.sources.items line) old new shown
+Obeys line (Some ShowFault) old new before after = (shown : List ℕ) × IsAnswerTo (asked old line) (noted (asked old line) old) new shown
     × ((front : List ℕ) × IsFrontOf front shown × Shows before after front true)
 -- memory was refused, even to say so
 Obeys line (Some NoMemory) old new before after = SameRun old new × (after ≡ before)

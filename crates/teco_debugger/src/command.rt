@@ -2,7 +2,7 @@
 ghost use Rattle.std.specs.List.{prefix_len, suffix_len};
 ghost use Rattle.std.specs.Prelude.{◌≡◌, ℕ, ◌≤◌, length, not, Result, Some};
 ghost use Rattle.teco_debugger.specs.Number.{number_in};
-ghost use Rattle.teco_debugger.specs.Commands.{break_at, command_in, command_of, find, given, is_blank, last_piece, part_in, register_in, source_named, stop_behind, stop_in, stop_of, watch_in, watched_by, watched_in, watched_register, way_in, without_blanks_after, without_blanks_before, words_of};
+ghost use Rattle.teco_debugger.specs.Commands.{again_after, break_at, command_in, command_of, find, given, is_blank, is_empty_line, last_piece, part_in, register_in, source_named, stop_behind, stop_in, stop_of, stop_or_list, watch_in, watched_by, watched_in, watched_register, way_in, without_blanks_after, without_blanks_before, words_of};
 
 use crate::number::number_in;
 use crate::part::Part;
@@ -22,7 +22,7 @@ pub enum DebuggerCommand {
     Register(Reg),
     /// Back to before the last change of the part.
     Find(Part),
-    /// The place to stop at.
+    /// A place more to stop at.
     Break(Stop),
     /// To the nearest step, this way, where what is watched differs.
     Watch(Watch, Way),
@@ -38,6 +38,7 @@ pub enum CommandFault {
     NoSource,
     NoWatch,
     TooMuch,
+    NoneBefore,
 }
 
 impl CommandFault {
@@ -53,6 +54,7 @@ impl CommandFault {
             CommandFault::NoSource => "no source has this name",
             CommandFault::NoWatch => "a register, . or Z is wanted, and then back or nothing",
             CommandFault::TooMuch => "nothing is wanted after this command",
+            CommandFault::NoneBefore => "no command to do again",
         }
     }
 }
@@ -85,6 +87,13 @@ fn before_blanks(bytes: &[u8]) -> &[u8]
         end -= 1;
     }
     &bytes[..end]
+}
+
+/// Whether a line has blanks alone.
+pub fn is_empty_line(line: &[u8]) -> bool
+    ensures { result ≡ is_empty_line line.now }
+{
+    before_blanks(line).is_empty()
 }
 
 /// Where the first word ends.
@@ -197,6 +206,16 @@ fn stop_in(sources: &[SourceText], bytes: &[u8]) -> Result<Stop, CommandFault>
     }
 }
 
+/// The command that notes a place to stop at, or lists them.
+fn stop_or_list(sources: &[SourceText], bytes: &[u8]) -> Result<DebuggerCommand, CommandFault>
+    ensures { result ≡ stop_or_list sources.now bytes.now }
+{
+    if bytes.is_empty() {
+        return Ok(DebuggerCommand::Plain(Plain::Breaks));
+    }
+    Ok(DebuggerCommand::Break(stop_in(sources, bytes)?))
+}
+
 /// The register of this name, to be watched.
 fn watched_register(byte: u8) -> Result<Watch, CommandFault>
     ensures { result ≡ watched_register byte }
@@ -273,7 +292,7 @@ fn command_in(
         }
         Takes::Register => Ok(DebuggerCommand::Register(register_in(bytes)?)),
         Takes::Part => find_in(bytes),
-        Takes::Stop => Ok(DebuggerCommand::Break(stop_in(sources, bytes)?)),
+        Takes::Stop => stop_or_list(sources, bytes),
         Takes::Watch => watch_in(bytes),
     }
 }
@@ -289,6 +308,16 @@ impl DebuggerCommand {
         match takes_of(&bytes[..end]) {
             Some(takes) => command_in(sources, takes, after_blanks(&bytes[end..])),
             None => Err(CommandFault::NoCommand),
+        }
+    }
+
+    /// The command that an empty line after this one asks for: the same, if it moves or shows.
+    pub fn again(&self) -> Option<DebuggerCommand>
+        ensures { result ≡ again_after self.now }
+    {
+        match self {
+            DebuggerCommand::Break(_) | DebuggerCommand::Counted(Counted::Delete, _) => None,
+            _ => Some(*self),
         }
     }
 }

@@ -1,23 +1,23 @@
 //! The commands, done by a walk.
-ghost use Rattle.std.specs.Prelude.{◌≡◌, ◌+◌, ◌++◌, [], IfOk, None, Ok, OnOk, slice_get};
+ghost use Rattle.std.specs.Prelude.{◌≡◌, ◌+◌, ◌++◌, ◌∷◌, [], IfOk, None, Ok, OnOk, slice_get};
 ghost use Rattle.std.specs.String.{string_bytes};
-ghost use Rattle.teco_debugger.specs.Commands.{IsAnswerTo, AnswersCommand, AnswersCounted, AnswersPlain, GoesByFound, GoesOnTo, GoesOnToStop, GoesOrSays, ShowsSeen, TakesBack, Watches, answer_line, command_of, far_line, words_of, words_without};
-ghost use Rattle.teco_debugger.specs.Moving.{Arrives, IsFound, MovesTo, SameRun};
-ghost use Rattle.teco_messages.specs.Spelling.{spelled};
+ghost use Rattle.teco_debugger.specs.Commands.{IsAnswerTo, AnswersCommand, AnswersCounted, AnswersPlain, Deletes, Finishes, GoesByFound, GoesOnTo, GoesOnToStop, GoesOrSays, HasOpenCalls, ShowsSeen, TakesBack, Watches, asked, noted, or_none_before, words_without};
+ghost use Rattle.teco_debugger.specs.Moving.{Arrives, IsFound, MovesTo, SameRun, goal, line_stop};
 
 use crate::around::show_around;
+use crate::breaks::show_stops;
+use crate::command::is_empty_line;
 use crate::help::{show_help, verb_rows};
 use crate::listing::{show_register, show_registers, show_state, show_text};
 use crate::moving::{ahead, behind};
+use crate::saying::{show_far, show_typed, show_words, words_without};
 use crate::showing::{show_step, show_where};
 use crate::sources::{SourceText, look, shown_name, shown_string};
-use crate::stops::{Found, Stop, line_stop, next_stop};
+use crate::stops::{Found, Stop, calls_of, line_stop, next_stop};
 use crate::watching::nearest_other;
-use crate::{Counted, DebuggerCommand, Plain, Walk, Watch, Way};
+use crate::{CommandFault, Counted, DebuggerCommand, Plain, Walk, Watch, Way};
 use std::alloc::Global;
-use std::fmt::Write;
 use teco_core::NoMemory;
-use teco_messages::spell;
 use teco_store::Desk;
 
 /// A walk, with what the commands need beside it.
@@ -27,45 +27,12 @@ pub struct Debugger {
     limit: u64,
     /// Where the walk stood before each move that can be taken back.
     moves: Vec<u64>,
-    stop: Option<Stop>,
+    /// The places to stop at, in the order in which they were noted.
+    stops: Vec<Stop>,
+    /// The command that an empty line asks for.
+    again: Option<DebuggerCommand>,
     /// The sources of the string, in their order; none where it is shown as it is.
     sources: Vec<SourceText>,
-}
-
-/// Shows a line of words.
-fn show_words(out: &mut String, words: &str) -> Result<(), NoMemory>
-    ensures { OnOk result (string_bytes out.new ≡ string_bytes out.old ++ answer_line words.now) }
-{
-    out.push_str(words)?;
-    out.push_str("\n")
-}
-
-/// Says that no step before this one is at a place, and that it takes too long to look further.
-fn show_far(out: &mut String, n: u64) -> Result<(), NoMemory>
-    ensures { OnOk result (string_bytes out.new ≡ string_bytes out.old ++ far_line n) }
-{
-    writeln!(
-        out,
-        "no step before step {n} is there, and it takes too long to look further"
-    )
-}
-
-/// Shows what was typed, in a line.
-fn show_typed(out: &mut String, typed: &[u8]) -> Result<(), NoMemory>
-    ensures { OnOk result (string_bytes out.new ≡ string_bytes out.old ++ answer_line (spelled typed.now)) }
-{
-    spell(out, typed)?;
-    out.push_str("\n")
-}
-
-/// What is said if what is watched is as here at all those steps.
-fn words_without(way: Way) -> &'static str
-    ensures { result.now ≡ words_without way }
-{
-    match way {
-        Way::On => "no step after this one changes it",
-        Way::Back => "no step before this one changed it",
-    }
 }
 
 /// What is shown of where a walk stands.
@@ -86,15 +53,18 @@ impl Debugger {
         ensures walk { result.walk ≡ walk }
         ensures limit { result.limit ≡ limit }
         ensures moves { result.moves.items ≡ [] }
-        ensures stop { result.stop ≡ None }
+        ensures stops { result.stops.items ≡ [] }
+        ensures again { result.again ≡ None }
         ensures sources { result.sources ≡ sources }
     {
         let moves = Vec::new(walk.alloc());
+        let stops = Vec::new(walk.alloc());
         Debugger {
             walk,
             limit,
             moves,
-            stop: None,
+            stops,
+            again: None,
             sources,
         }
     }
@@ -115,11 +85,24 @@ impl Debugger {
         }
     }
 
-    /// The sources of the string.
-    pub fn sources(&self) -> &[SourceText]
-        ensures { result.now ≡ self.now.sources.items }
+    /// The last command, to be done again.
+    fn last_again(&self) -> Result<DebuggerCommand, CommandFault>
+        ensures { result ≡ or_none_before self.now.again }
     {
-        self.sources.as_slice()
+        match self.again {
+            Some(command) => Ok(command),
+            None => Err(CommandFault::NoneBefore),
+        }
+    }
+
+    /// What a line asks: an empty one asks for the last command again.
+    pub fn asked(&self, line: &[u8]) -> Result<DebuggerCommand, CommandFault>
+        ensures { result ≡ asked self.now line.now }
+    {
+        if is_empty_line(line) {
+            return self.last_again();
+        }
+        DebuggerCommand::of(self.sources.as_slice(), line)
     }
 
     /// Goes to a step, and shows where the walk then stands.
@@ -177,16 +160,16 @@ impl Debugger {
         }
     }
 
-    /// Looks for the next step at the place to stop at.
-    fn next_stop(&self, stop: Stop) -> Result<Found, NoMemory>
-        ensures { IfOk result (IsFound self.now.sources.items self.now.walk stop (self.now.walk.steps + 1) self.now.limit) }
+    /// Looks for the next step at one of these places, or with fewer calls open than `calls`.
+    fn next_stop(&self, stops: &[Stop], calls: usize) -> Result<Found, NoMemory>
+        ensures { IfOk result (IsFound self.now.sources.items self.now.walk (goal stops.now calls) (self.now.walk.steps + 1) self.now.limit) }
     {
         let steps = self.walk.steps();
         if steps >= self.limit {
             return Ok(Found::Nowhere);
         }
         let sources = self.sources.as_slice();
-        next_stop(&self.walk, sources, stop, steps + 1, self.limit)
+        next_stop(&self.walk, sources, stops, calls, steps + 1, self.limit)
     }
 
     /// Goes to the step that was found, or says why there is none.
@@ -197,31 +180,67 @@ impl Debugger {
     {
         match found {
             Found::At(n) => self.go(out, n),
-            Found::Nowhere => show_words(out, "no step at that place comes"),
+            Found::Nowhere => show_words(out, "no such step comes"),
             Found::TooFar(n) => show_far(out, n),
         }
     }
 
-    /// Goes on to the next step that is there.
-    fn go_on_to(&mut self, out: &mut String, stop: Stop) -> Result<(), NoMemory>
+    /// Goes on to the next step in this line.
+    fn go_on_to(&mut self, out: &mut String, line: u64) -> Result<(), NoMemory>
         requires { string_bytes out.old ≡ [] }
-        ensures continues { OnOk result (GoesOnTo stop self.old self.new (string_bytes out.new)) }
+        ensures continues { OnOk result (GoesOnTo (goal (line_stop line ∷ []) 0) self.old self.new (string_bytes out.new)) }
         ensures same { SameRun self.old self.new }
     {
-        let found = self.next_stop(stop)?;
+        let found = self.next_stop(&[line_stop(line)], 0)?;
         self.go_by(out, found)
     }
 
-    /// Goes on to the next step at the place to stop at.
+    /// Goes on to the next step at a place to stop at.
     fn go_on(&mut self, out: &mut String) -> Result<(), NoMemory>
         requires { string_bytes out.old ≡ [] }
-        ensures continues { OnOk result (GoesOnToStop self.old.stop self.old self.new (string_bytes out.new)) }
+        ensures continues { OnOk result (GoesOnToStop self.old.stops.items self.old self.new (string_bytes out.new)) }
         ensures same { SameRun self.old self.new }
     {
-        match self.stop {
-            Some(stop) => self.go_on_to(out, stop),
-            None => show_words(out, "no place to stop at is noted"),
+        if self.stops.is_empty() {
+            return show_words(out, "no place to stop at is noted");
         }
+        let found = self.next_stop(self.stops.as_slice(), 0)?;
+        self.go_by(out, found)
+    }
+
+    /// How many calls are open where the walk stands.
+    fn open_calls(&self) -> Result<usize, NoMemory>
+        ensures { IfOk result (HasOpenCalls self.now.sources.items self.now.walk) }
+    {
+        let there = look(&self.walk, self.sources.as_slice(), self.walk.steps())?;
+        Ok(calls_of(there.seen.place.as_ref()))
+    }
+
+    /// Goes on to the step after the end of the call that is open.
+    fn finish(&mut self, out: &mut String) -> Result<(), NoMemory>
+        requires { string_bytes out.old ≡ [] }
+        ensures finishes { OnOk result (Finishes self.old self.new (string_bytes out.new)) }
+        ensures same { SameRun self.old self.new }
+    {
+        let calls = self.open_calls()?;
+        if calls == 0 {
+            return show_words(out, "no call is open");
+        }
+        let found = self.next_stop(&[], calls)?;
+        self.go_by(out, found)
+    }
+
+    /// Forgets the place to stop at of this number, if there is one.
+    fn delete(&mut self, out: &mut String, n: u64) -> Result<(), NoMemory>
+        requires { string_bytes out.old ≡ [] }
+        ensures deletes { OnOk result (Deletes n self.old self.new (string_bytes out.new)) }
+        ensures same { SameRun self.old self.new }
+    {
+        if n > 0 && n <= self.stops.len() as u64 {
+            let _ = self.stops.remove(n as usize - 1);
+            return Ok(());
+        }
+        show_words(out, "no place to stop at has this number")
     }
 
     /// Goes to the nearest step at which what is watched differs from here.
@@ -245,7 +264,9 @@ impl Debugger {
             Plain::Where => self.show(out, View::Where),
             Plain::Registers => show_registers(out, self.walk.editor().registers()),
             Plain::State => show_state(out, self.walk.editor()),
+            Plain::Breaks => show_stops(out, self.sources.as_slice(), self.stops.as_slice()),
             Plain::Continue => self.go_on(out),
+            Plain::Finish => self.finish(out),
             Plain::Typed => self.show(out, View::Typed),
             Plain::Help => show_help(out, verb_rows()),
             // no line is read after it
@@ -267,7 +288,8 @@ impl Debugger {
             Counted::Around => self.show(out, View::Around(n)),
             Counted::Text => show_text(out, self.walk.editor(), n),
             Counted::Undo => self.take_back(out, moves.saturating_sub(n as usize)),
-            Counted::Until => self.go_on_to(out, line_stop(n)),
+            Counted::Until => self.go_on_to(out, n),
+            Counted::Delete => self.delete(out, n),
         }
     }
 
@@ -287,7 +309,7 @@ impl Debugger {
             }
             DebuggerCommand::Watch(watch, way) => self.watch(out, watch, way),
             DebuggerCommand::Break(stop) => {
-                self.stop = Some(stop);
+                self.stops.push(stop)?;
                 Ok(())
             }
         }
@@ -312,14 +334,41 @@ impl Debugger {
         }
     }
 
-    /// The answer to a line.
-    pub fn answer_to(&mut self, alloc: Global, line: &[u8]) -> Result<String, NoMemory>
-        ensures answers { IfOk result (λ text. IsAnswerTo (command_of self.old.sources.items line.now) self.old self.new (string_bytes text)) }
+    /// Notes what a line asked, for an empty line after it.
+    fn note(&mut self, asked: &Result<DebuggerCommand, CommandFault>)
+        ensures { self.new ≡ noted asked.now self.old }
+    {
+        match asked {
+            Ok(command) => self.again = command.again(),
+            Err(_) => {}
+        }
+    }
+
+    /// The answer to what a line asked.
+    fn answer_asked(
+        &mut self,
+        alloc: Global,
+        asked: &Result<DebuggerCommand, CommandFault>,
+    ) -> Result<String, NoMemory>
+        ensures answers { IfOk result (λ text. IsAnswerTo asked.now self.old self.new (string_bytes text)) }
         ensures same { SameRun self.old self.new }
     {
-        match DebuggerCommand::of(self.sources.as_slice(), line) {
-            Ok(command) => self.answer_or_lack(alloc, command),
+        match asked {
+            Ok(command) => self.answer_or_lack(alloc, *command),
             Err(fault) => format!(in alloc; "{fault}\n"),
         }
+    }
+
+    /// The same, noted for an empty line after it.
+    pub fn answer_to(
+        &mut self,
+        alloc: Global,
+        asked: &Result<DebuggerCommand, CommandFault>,
+    ) -> Result<String, NoMemory>
+        ensures answers { IfOk result (λ text. IsAnswerTo asked.now (noted asked.now self.old) self.new (string_bytes text)) }
+        ensures same { SameRun self.old self.new }
+    {
+        self.note(asked);
+        self.answer_asked(alloc, asked)
     }
 }

@@ -3,6 +3,7 @@
 
 mod arguments;
 mod around;
+mod breaks;
 mod command;
 mod debugger;
 mod ending;
@@ -15,6 +16,7 @@ mod number;
 mod part;
 mod reading;
 mod running;
+mod saying;
 mod serving;
 mod showing;
 mod sources;

@@ -1,24 +1,21 @@
 //! The commands, served over a walk.
 ghost use Rattle.std.specs.Prelude.{◌≡◌, ◌⊎◌, OnErr, OnOk};
-ghost use Rattle.teco_debugger.specs.Commands.{is_leaving, command_of};
+ghost use Rattle.teco_debugger.specs.Commands.{is_leaving};
 ghost use Rattle.teco_debugger.specs.Serving.{AsksAndServes, EndsStar, EndsUnread, StopsShowing, Obeys, ServesLines, ServesNext, ShowsIf, stage};
 
 use crate::debugger::Debugger;
 use crate::ending::Ending;
-use crate::{DebuggerCommand, Plain, SourceText};
+use crate::{CommandFault, DebuggerCommand, Plain};
 use std::alloc::Global;
 use std::io::BufRead;
 use teco_core::NoMemory;
 use teco_io::{Terminal, TerminalFault};
 
 /// Whether a line asks to leave.
-fn is_leaving(sources: &[SourceText], line: &[u8]) -> bool
-    ensures { result ≡ is_leaving (command_of sources.now line.now) }
+fn is_leaving(asked: &Result<DebuggerCommand, CommandFault>) -> bool
+    ensures { result ≡ is_leaving asked.now }
 {
-    matches!(
-        DebuggerCommand::of(sources, line),
-        Ok(DebuggerCommand::Plain(Plain::Quit))
-    )
+    matches!(asked, Ok(DebuggerCommand::Plain(Plain::Quit)))
 }
 
 /// Shows these bytes, if commands are typed at a terminal.
@@ -51,10 +48,11 @@ fn obey<T: Terminal>(
 ) -> Option<Ending>
     ensures { Obeys line.now result debugger.old debugger.new (T.screen term.old) (T.screen term.new) }
 {
-    if is_leaving(debugger.sources(), line) {
+    let asked = debugger.asked(line);
+    if is_leaving(&asked) {
         return Some(Ending::Done);
     }
-    match debugger.answer_to(alloc, line) {
+    match debugger.answer_to(alloc, &asked) {
         Err(NoMemory) => Some(Ending::NoMemory),
         Ok(text) => match term.put(text.as_bytes()) {
             Ok(()) => None,

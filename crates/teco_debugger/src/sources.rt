@@ -1,6 +1,6 @@
 //! The sources of a command string, and what is shown of its places.
 ghost use Rattle.std.specs.Prelude.{◌≡◌, ◌∷◌, ℕ, IfOk, option_copied, slice_get};
-ghost use Rattle.teco_debugger.specs.Sources.{IsShownAt, IsShownPlace, IsShownSeen, number_at, number_of_place, outermost_place, shown_name, shown_place, shown_string};
+ghost use Rattle.teco_debugger.specs.Sources.{IsShownAt, IsShownPlace, IsShownSeen, name_or_none, number_at, number_of_place, outermost_place, shown_name, shown_place, shown_string};
 ghost use Rattle.teco_debugger.specs.Walk.{meant};
 
 use crate::{Seen, Walk};
@@ -35,6 +35,16 @@ pub fn shown_string<'a>(sources: &'a [SourceText], number: usize, text: &'a [u8]
     match sources.get(number) {
         Some(source) => source.text.as_slice(),
         None => text,
+    }
+}
+
+/// The name of the source of this number.
+pub fn name_or_none(sources: &[SourceText], number: usize) -> &str
+    ensures { result.now ≡ name_or_none (slice_get sources.now number) }
+{
+    match sources.get(number) {
+        Some(source) => source.name.as_str(),
+        None => "",
     }
 }
 

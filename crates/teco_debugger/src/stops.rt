@@ -1,6 +1,6 @@
 //! Where a walk stops on its way.
-ghost use Rattle.std.specs.Prelude.{◌≡◌, IfOk, length};
-ghost use Rattle.teco_debugger.specs.Moving.{IsFound, is_at, is_or_any, is_stop, is_there, line_stop};
+ghost use Rattle.std.specs.Prelude.{◌≡◌, IfOk, length, option_copied};
+ghost use Rattle.teco_debugger.specs.Moving.{IsFound, calls_of, goal, is_among, is_at, is_one, is_or_any, is_stop, is_there, line_stop};
 
 use crate::Walk;
 use crate::sources::{Shown, SourceText, look, shown_string};
@@ -59,26 +59,55 @@ fn is_there(stop: Stop, number: usize, here: Spot) -> bool
     is_in(stop, number) && here.line == stop.line && is_under(stop, here.column)
 }
 
-/// Whether a place of a run is there in a source, with no call open.
-fn is_at(text: &[u8], stop: Stop, number: usize, place: &Place) -> bool
-    ensures { result ≡ is_at text.now stop number place.now }
+/// Whether a line and a column of a source are one of the places to stop at.
+fn is_one(stops: &[Stop], number: usize, here: Spot) -> bool
+    ensures { result ≡ is_one stops.now number here }
+{
+    for stop in stops {
+        if is_there(*stop, number, here) {
+            return true;
+        }
+    }
+    false
+}
+
+/// Whether a place of a run is one of these in a source, with no call open.
+fn is_among(text: &[u8], stops: &[Stop], number: usize, place: &Place) -> bool
+    ensures { result ≡ is_among text.now stops.now number place.now }
 {
     place.calls.is_empty()
         && place.at <= text.len()
-        && is_there(stop, number, spot_of(text, place.at))
+        && is_one(stops, number, spot_of(text, place.at))
+}
+
+/// Whether a place of a run is where to stop: one of these, or with fewer calls open than `calls`.
+fn is_at(text: &[u8], stops: &[Stop], calls: usize, number: usize, place: &Place) -> bool
+    ensures { result ≡ is_at text.now (goal stops.now calls) number place.now }
+{
+    place.calls.len() < calls || is_among(text, stops, number, place)
 }
 
 /// Whether a run that was seen stands there after `n` steps.
-fn is_stop(text: &[u8], stop: Stop, n: u64, shown: &Shown) -> bool
-    ensures { result ≡ is_stop text.now stop n shown.now }
+fn is_stop(text: &[u8], stops: &[Stop], calls: usize, n: u64, shown: &Shown) -> bool
+    ensures { result ≡ is_stop text.now (goal stops.now calls) n shown.now }
 {
     match &shown.seen.place {
-        Some(place) => place.steps == n && is_at(text, stop, shown.number, place),
+        Some(place) => place.steps == n && is_at(text, stops, calls, shown.number, place),
         None => false,
     }
 }
 
-/// What a look for the next step at a place to stop at comes to.
+/// How many calls are open at a place, if a run stands at one.
+pub fn calls_of(place: Option<&Place>) -> usize
+    ensures { result ≡ calls_of (option_copied place.entry) }
+{
+    match place {
+        Some(place) => place.calls.len(),
+        None => 0,
+    }
+}
+
+/// What a look for the next step where to stop comes to.
 #[derive(Clone, Copy)]
 pub enum Found {
     /// This step is there.
@@ -89,15 +118,16 @@ pub enum Found {
     TooFar(u64),
 }
 
-/// Looks for the first step from `from` on, below a limit, that is at the place to stop at.
+/// Looks for the first step from `from` on, below a limit, that is at one of these places, or has fewer calls open than `calls`.
 pub fn next_stop(
     walk: &Walk,
     sources: &[SourceText],
-    stop: Stop,
+    stops: &[Stop],
+    calls: usize,
     from: u64,
     limit: u64,
 ) -> Result<Found, NoMemory>
-    ensures { IfOk result (IsFound sources.now walk.now stop from limit) }
+    ensures { IfOk result (IsFound sources.now walk.now (goal stops.now calls) from limit) }
 {
     let mut work = MOST_WORK;
     for n in from..limit {
@@ -110,7 +140,7 @@ pub fn next_stop(
             return Ok(Found::Nowhere);
         }
         let text = shown_string(sources, shown.number, walk.text());
-        if is_stop(text, stop, n, &shown) {
+        if is_stop(text, stops, calls, n, &shown) {
             return Ok(Found::At(n));
         }
     }

@@ -10,8 +10,12 @@ pub enum Plain {
     Where,
     Registers,
     State,
-    /// On to the place to stop at.
+    /// The places to stop at.
+    Breaks,
+    /// On to the next place to stop at.
     Continue,
+    /// On to the end of the call that is open.
+    Finish,
     Typed,
     Help,
     Quit,
@@ -34,6 +38,8 @@ pub enum Counted {
     Undo,
     /// On to a step in this line.
     Until,
+    /// No longer to the place of this number.
+    Delete,
 }
 
 /// What a command takes after its word, and which command it is.
@@ -47,7 +53,7 @@ pub(crate) enum Takes {
     Register,
     /// A register, or the word `text`.
     Part,
-    /// A place of the string to stop at.
+    /// A place of the string to stop at, or nothing.
     Stop,
     /// A register, the pointer or the length of the buffer, and which way to go.
     Watch,
@@ -68,7 +74,7 @@ pub struct VerbRow {
 }
 
 /// Every command, in the order of the help.
-pub const VERBS: [VerbRow; 20] = [
+pub const VERBS: [VerbRow; 22] = [
     VerbRow {
         word: "next",
         letter: "n",
@@ -157,15 +163,29 @@ pub const VERBS: [VerbRow; 20] = [
         word: "break",
         letter: "k",
         takes: Takes::Stop,
-        operand: "PLACE",
-        help: "notes LINE, LINE:COLUMN, FILE:LINE or FILE:LINE:COLUMN",
+        operand: "[PLACE]",
+        help: "notes LINE, LINE:COLUMN, FILE:LINE or FILE:LINE:COLUMN; lists the places without one",
+    },
+    VerbRow {
+        word: "delete",
+        letter: "x",
+        takes: Takes::Number(Counted::Delete),
+        operand: "N",
+        help: "forgets the place of this number",
     },
     VerbRow {
         word: "continue",
         letter: "c",
         takes: Takes::Nothing(Plain::Continue),
         operand: "",
-        help: "on to the next step at that place",
+        help: "on to the next step at one of those places",
+    },
+    VerbRow {
+        word: "finish",
+        letter: "o",
+        takes: Takes::Nothing(Plain::Finish),
+        operand: "",
+        help: "on to the step after the end of the call that is open",
     },
     VerbRow {
         word: "typed",

@@ -13,7 +13,8 @@ returns-clause-arrives c =
       there_is = e.1;
       shown_is = e.2 ∙ ap (λ l. l ++ step_at c.args.self.now.sources.items c.go.new.self e.0) c.requires;
       limit = refl;
-      stop = refl;
+      stops = refl;
+      again = refl;
       sources = refl;
     })
     c.show.ensures
