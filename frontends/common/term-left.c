@@ -133,7 +133,7 @@ static bool take_string(struct work *work, size_t i)
         && teco_string(&work->session, i, text.at, n, &n) == 0 && teco_steps(&work->session, i, &steps) == 0
         && journal_reserve(&work->journal, n);
     if (is_taken) {
-        journal_note(&work->journal, text.at, n, 0, steps);
+        journal_note(&work->journal, text.at, n, NOT_KNOWN, steps);
         (void)past_add(text.at, n > 0 && text.at[n - 1] == ESCAPE ? n - 1 : n);
     }
     bytes_free(&text);

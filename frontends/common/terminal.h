@@ -106,6 +106,9 @@ bool file_is_same(const struct stat *one, const struct stat *other);
 
 /* THE STRINGS OF A SESSION */
 
+/* The code of a string that was run by another process: how it ended isn't known. */
+enum { NOT_KNOWN = 255 };
+
 /* A string that was run: where its text ends among all of them, and how it ended. */
 struct kept {
     size_t end;

@@ -251,7 +251,7 @@ static enum fate read_keys(struct screen *screen)
     while (event == CAME && screen->pending.count < LONGEST && screen->pending.count > 1 && tty_wait(-1, &AT_ONCE) == CAME);
     if (screen->pending.count == 0 && event != CAME)
         return event == ENDED ? TERMINAL_GONE : READ_FAULT;
-    return receive(screen, false);
+    return receive(screen, event != CAME);
 }
 
 static void take_view(struct screen *screen)

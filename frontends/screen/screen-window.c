@@ -154,7 +154,7 @@ static void draw_string(const struct screen *screen, int row, size_t string, boo
     (void)mvaddstr(row, left, number);
     (void)put_bytes(row, left + (int)strlen(number), COLS - 5, text, n, is_undone ? A_DIM : 0, PLAIN);
     (void)attr_set(is_undone ? A_DIM : 0, has_colors() ? (code == 0 ? GOOD : ERROR) : 0, NULL);
-    (void)mvprintw(row, COLS - 4, " %s", code == 0 ? "ok" : code_letters(code));
+    (void)mvprintw(row, COLS - 4, " %s", code == 0 ? "ok" : code == NOT_KNOWN ? "" : code_letters(code));
     (void)attr_set(0, 0, NULL);
 }
 
