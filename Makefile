@@ -38,7 +38,7 @@ SOURCES != find crates.txt crates/*/src crates/*/specs crates/*/proofs -type f !
 SHARED != ls frontends/common/*.c
 TERM_SOURCES != ls frontends/term/*.c
 SCREEN_SOURCES != ls frontends/screen/*.c
-HEADERS = bindings/c/teco.h frontends/common/terminal.h
+HEADERS = bindings/c/teco.h frontends/common/terminal.h frontends/common/typing.h
 NCURSES != pkg-config --cflags --libs ncursesw 2> /dev/null || echo -lncursesw
 
 ## make               builds the programs teco, teco-debug, tecol, teco-term and teco-screen, the library and the completions, into out/;
