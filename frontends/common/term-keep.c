@@ -197,7 +197,6 @@ void keep_begin(struct keeper *keeper, const uint8_t *input, size_t n, size_t de
     else
         write_line(keeper, find_room(keeper, n + MORE) && teco_head(input, n, depth, &keeper->line) == 0);
     bytes_free(&keeper->room);
-    keep_sync(keeper);
 }
 
 void keep_go_on(struct keeper *keeper, const struct teco_resumed *resumed)
