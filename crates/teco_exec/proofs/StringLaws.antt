@@ -6,7 +6,7 @@ use Rattle.teco_store.specs.State.{State}
 use Rattle.teco_exec.specs.StringMeaning.{StringMeaning, string_meaning}
 use Rattle.teco_exec.specs.CursorMoves.{after_block_step}
 use Rattle.teco_exec.specs.Machine.{Config, Machine, runs, Ready, step, block, faulty, finished, Final, final, ready_of, after_paid_step, final_without_fuel, final_with_fuel, run_within, after_steps, start_config, Now, now_of, halts, after_step_end, setting_of, ready_within}
-use Rattle.teco_exec.specs.Laws.{StepsWithinLimit, MoreLimitChangesNothing, EnoughIsEnough, ZeroLimitChangesNothing, ExitEndsWell}
+use Rattle.teco_exec.specs.Laws.{StepsWithinLimit, MoreLimitChangesNothing, EnoughIsEnough, LimitsAreReached, ZeroLimitChangesNothing, ExitEndsWell}
 use Rattle.teco_exec.specs.MachineLaws.{MachineMeans, MachineFollows}
 use Rattle.teco_core.specs.declared.code.Code.TheVariants as code
 use Rattle.teco_scan.specs.declared.command.Modifiers.{Modifiers}
@@ -79,6 +79,20 @@ same_again means s text n =
     let same : string_meaning s text (n - f.fuel) ≡ string_meaning s text n =
     elim (more means s text f.fuel (n - f.fuel) n f refl all (run_raises f.fuel (n - f.fuel) n (runs (start_config s text)) all)) [ inl h ↦ absurd (omega (arith, h.1)) | inr e ↦ sym e ] in
     ap (string_meaning s text) took ∙ same
+
+-- A string that is stopped before its end has used its limit.
+pub limits_reached : MachineMeans → LimitsAreReached
+limits_reached means s text limit k less =
+    let start : Machine = runs (start_config s text) in
+    let f : Final = run_within k start in
+    let g : Final = run_within limit start in
+    let taken : (string_meaning s text k).steps ≡ k - f.fuel = ap (λ (m : StringMeaning). m.steps) (sym (means s text k)) in
+    let taken_more : (string_meaning s text limit).steps ≡ limit - g.fuel = ap (λ (m : StringMeaning). m.steps) (sym (means s text limit)) in
+    let all : limit ≡ k + (limit - k) = omega (arith, less, taken_more) in
+    elim (run_raises (limit - k) k limit start all) [
+      | same e ↦ (let more : g.fuel ≡ f.fuel + (limit - k) = ap (λ (x : Final). x.fuel) e in absurd (omega (arith, less, taken_more, more, fuel_within k start)))
+      | spent lim none few ↦ taken ∙ (let left : k - f.fuel ≡ k = omega (arith, none) in left)
+    ]
 
 abbrev now_meant : StringMeaning → Now
 now_meant m = record { state = m.state; typed = m.typed; load = m.load }

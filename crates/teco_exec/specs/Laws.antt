@@ -1,5 +1,5 @@
 -- What the meaning says, sentence by sentence.
-use Rattle.std.specs.Prelude.{◌≡◌, ◌≢◌, ℕ, suc, ◌+◌, ◌≤◌, List, [], Option, Some, None, Bool, true, false, Ok, ℤ, ◌==◌, if◌then◌else◌}
+use Rattle.std.specs.Prelude.{◌≡◌, ◌≢◌, ℕ, suc, ◌+◌, ◌≤◌, ◌<◌, List, [], Option, Some, None, Bool, true, false, Ok, ℤ, ◌==◌, if◌then◌else◌}
 use Rattle.teco_core.specs.declared.code.Code.{Code}
 use Rattle.teco_core.specs.declared.code.Code.TheVariants as code
 use Rattle.teco_core.specs.declared.arguments.Taken.TheVariants as taken
@@ -202,6 +202,11 @@ MoreLimitChangesNothing = (s : State) (text : List ℕ) (limit more : ℕ)
 abbrev pub EnoughIsEnough : Type 0
 EnoughIsEnough = (s : State) (text : List ℕ) (limit : ℕ)
     → string_meaning s text (string_meaning s text limit).steps ≡ string_meaning s text limit
+
+-- Under a limit below the steps that it takes, a string takes just so many.
+abbrev pub LimitsAreReached : Type 0
+LimitsAreReached = (s : State) (text : List ℕ) (limit k : ℕ) → k < (string_meaning s text limit).steps
+    → (string_meaning s text k).steps ≡ k
 
 -- Under limit 0 nothing changes: no step is taken, no byte typed, and the state is the one before.
 pub record ChangesNothing (s : State) (m : StringMeaning) : Type 0 where

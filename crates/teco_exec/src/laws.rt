@@ -1,5 +1,5 @@
 //! What the meaning of command strings says, and the machine beside it.
-ghost use Rattle.teco_exec.specs.Laws.{MeaningUnrolls, EmptyListEnds, FaultStops, TagIsPassed, EscapeDrops, NothingWithoutFuel, StepEnds, StepComesTo, FurtherStep, BlockComesTo, TurnEnds, LeavingEnds, StepsWithinLimit, MoreLimitChangesNothing, EnoughIsEnough, ZeroLimitChangesNothing, ExitEndsWell};
+ghost use Rattle.teco_exec.specs.Laws.{MeaningUnrolls, EmptyListEnds, FaultStops, TagIsPassed, EscapeDrops, NothingWithoutFuel, StepEnds, StepComesTo, FurtherStep, BlockComesTo, TurnEnds, LeavingEnds, StepsWithinLimit, MoreLimitChangesNothing, EnoughIsEnough, LimitsAreReached, ZeroLimitChangesNothing, ExitEndsWell};
 ghost use Rattle.teco_exec.specs.MachineLaws.{MachineMeans, MachineFollows};
 
 use teco_scan::block_laws;
@@ -22,6 +22,7 @@ pub fn meaning_laws()
     ensures within_limit { StepsWithinLimit }
     ensures more_limit { MoreLimitChangesNothing }
     ensures enough { EnoughIsEnough }
+    ensures reached { LimitsAreReached }
     ensures limit_zero { ZeroLimitChangesNothing }
     ensures exit { ExitEndsWell }
 {

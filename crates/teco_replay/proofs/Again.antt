@@ -3,7 +3,7 @@ use Rattle.std.proofs.Common.{◌≡◌, ℕ, Bool, true, false, List, Option, S
 use Rattle.teco_core.specs.declared.code.Code.{Code}
 use Rattle.teco_core.specs.declared.code.Code.TheVariants.{Mem, Tty}
 use Rattle.teco_store.specs.State.{State}
-use Rattle.teco_exec.specs.Laws.{EnoughIsEnough}
+use Rattle.teco_exec.specs.Laws.{EnoughIsEnough, LimitsAreReached}
 use Rattle.teco_exec.specs.Runs.{Runs}
 use Rattle.teco_exec.specs.StringMeaning.{string_meaning}
 use Rattle.teco_session.specs.History.{History, present}
@@ -11,7 +11,6 @@ use Rattle.teco_session.specs.Step.{RunStep}
 use Rattle.teco_session.specs.declared.request.Answer.{Answer}
 use Rattle.teco_session.specs.declared.request.Answer.TheVariants.{Ended, NotBegun, AfterExit}
 use Rattle.teco_journal.specs.Events.{ran}
-use Rattle.teco_replay.specs.Laws.{LimitsAreReached}
 use Rattle.teco_replay.specs.Told.{Happens, after_event, after_events}
 use Rattle.teco_replay.specs.Verdict.{fault_unless, fault_of_end, fault_of}
 use Rattle.teco_replay.specs.declared.replaying.ReplayFault.TheVariants.{Wrong}

@@ -3,7 +3,7 @@ use Rattle.std.proofs.Common.{◌≡◌, ℕ, List, [], ◌∷◌, ◌++◌, Opt
 use Rattle.teco_core.specs.declared.code.Code.{Code}
 use Rattle.teco_core.specs.declared.code.Code.TheVariants.{Mem, Tty}
 use Rattle.teco_store.specs.State.{State}
-use Rattle.teco_exec.specs.Laws.{EnoughIsEnough}
+use Rattle.teco_exec.specs.Laws.{EnoughIsEnough, LimitsAreReached}
 use Rattle.teco_exec.specs.Runs.{Runs}
 use Rattle.teco_exec.specs.StringMeaning.{StringMeaning, string_meaning}
 use Rattle.teco_session.specs.History.{History, NotedString, present, noted}
@@ -14,7 +14,7 @@ use Rattle.teco_session.specs.declared.request.Answer.{Answer}
 use Rattle.teco_session.specs.declared.request.Answer.TheVariants.{Ended, NotBegun, AfterExit, Undone, NothingToUndo, Redone, NothingToRedo, Rewound}
 use Rattle.teco_journal.specs.Events.{Event}
 use Rattle.teco_replay.specs.Told.{after_event, after_events, AllHappen, event_of_run, event_of_undo, event_of_redo, event_of_rewind, event_of_request, event_of_deed, Deed, asked, dropped, DeedStep, Lived, journal_of}
-use Rattle.teco_replay.specs.Laws.{LimitsAreReached, JournalsTell, JournalsHappen}
+use Rattle.teco_replay.specs.Laws.{JournalsTell, JournalsHappen}
 
 after_both : (h : History) (xs ys : List Event) → after_events h (xs ++ ys) ≡ after_events (after_events h xs) ys
 unfolding after_events

@@ -1,3 +1,9 @@
-pub mod Limits
 pub mod Journals
 pub mod Again
+pub mod Runs
+pub mod KeptEvents
+pub mod Later
+pub mod Firsts
+pub mod Depth
+pub mod Records
+pub mod Fewest

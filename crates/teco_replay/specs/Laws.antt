@@ -1,14 +1,7 @@
 -- What holds of the events of a session.
-use Rattle.std.specs.Prelude.{◌≡◌, ℕ, ◌<◌, List}
-use Rattle.teco_store.specs.State.{State}
-use Rattle.teco_exec.specs.StringMeaning.{string_meaning}
+use Rattle.std.specs.Prelude.{◌≡◌, List}
 use Rattle.teco_session.specs.History.{History}
 use Rattle.teco_replay.specs.Told.{Deed, after_events, AllHappen, Lived, journal_of}
-
--- Under a limit below the steps that it takes, a string takes just so many.
-abbrev pub LimitsAreReached : Type 0
-LimitsAreReached = (s : State) (text : List ℕ) (limit k : ℕ) → k < (string_meaning s text limit).steps
-    → (string_meaning s text k).steps ≡ k
 
 -- The events of a session tell the history that it has.
 abbrev pub JournalsTell : Type 0

@@ -2,9 +2,11 @@
 #![tactic(auto)]
 
 mod laws;
+mod pruning;
 mod quiet;
 mod replaying;
 
 pub use laws::replay_laws;
+pub use pruning::{pruning_laws, records_of};
 pub use quiet::Quiet;
 pub use replaying::{ReplayFault, replay, resume};

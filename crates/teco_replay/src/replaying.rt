@@ -52,7 +52,6 @@ fn run_again<T: Terminal>(
     ensures possible { Happens (history_of session.old) (ran steps text.now)
         → IsErrOf result ReplayFault.Wrong → ⊥ }
 {
-    replay_laws();
     meaning_laws();
     let answer = session.run(text, steps, term);
     match fault_of(answer, steps) {

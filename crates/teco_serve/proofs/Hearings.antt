@@ -4,11 +4,11 @@ use Rattle.std.specs.Prelude.{OnErr, OnOk, Option, Some}
 use Rattle.teco_core.specs.declared.code.Code.{Code}
 use Rattle.teco_core.specs.declared.code.Code.TheVariants.{Mem, Tty}
 use Rattle.teco_store.specs.State.{State}
-use Rattle.teco_exec.specs.Laws.{EnoughIsEnough}
+use Rattle.teco_exec.specs.Laws.{EnoughIsEnough, LimitsAreReached}
 use Rattle.teco_exec.specs.Runs.{Runs}
 use Rattle.teco_exec.specs.StringMeaning.{StringMeaning, string_meaning}
 use Rattle.teco_journal.specs.Events.{Event}
-use Rattle.teco_replay.specs.Laws.{JournalsHappen, JournalsTell, LimitsAreReached}
+use Rattle.teco_replay.specs.Laws.{JournalsHappen, JournalsTell}
 use Rattle.teco_replay.specs.Told.{AllHappen, Deed, Lived, after_event, after_events, asked, event_of_request, event_of_run, journal_of}
 use Rattle.teco_session.specs.Answers.{string_outcome}
 use Rattle.teco_session.specs.History.{History, NotedString, noted, present}

@@ -216,7 +216,6 @@ fn run_text<A: Alarm, T: Terminal, L: Listens>(
         (is_exit (Run text.now) (history_of session.old) (history_of session.new) ≡ false) }
     ensures heard { HearsAllDone L.hears listener.old listener.new (history_of session.old) (history_of session.new) }
 {
-    replay_laws();
     meaning_laws();
     let bounds = settings.bounds;
     let answered = if let Some(seconds) = bounds.seconds {

@@ -1,5 +1,5 @@
 use Rattle.teco_exec.proofs.Sentences as sentences
-use Rattle.teco_exec.proofs.StringLaws.{within_limit, more_limit, same_again, limit_zero, exit_ends_well}
+use Rattle.teco_exec.proofs.StringLaws.{within_limit, more_limit, same_again, limits_reached, limit_zero, exit_ends_well}
 use Rattle.teco_exec.proofs.laws.meaning_laws.Goals as goal
 
 pub returns : goal.returns
@@ -19,6 +19,7 @@ returns c = record {
   within_limit = within_limit;
   more_limit = more_limit c.machine_laws.ensures.means;
   enough = same_again c.machine_laws.ensures.means;
+  reached = limits_reached c.machine_laws.ensures.means;
   limit_zero = limit_zero c.machine_laws.ensures.follows;
   exit = exit_ends_well c.machine_laws.ensures.means c.effect_laws.ensures.done;
 }

@@ -7,7 +7,7 @@ use Rattle.teco_replay.proofs.replaying.run_again.Goals as goal
 pub returns-in-None-clause-told : goal.returns-in-None-clause-told
 returns-in-None-clause-told g c =
     let step = c.run-answer.ensures.step in
-    ran_again c.meaning_laws.ensures.enough c.replay_laws.ensures.reached _ (history_of c.args.session.now) (history_of c.run-answer.new.self) c.args.text.now c.args.steps c.run-answer.result step.0 step.1 (sym c.fault_of.ensures ∙ c.in-None.is)
+    ran_again c.meaning_laws.ensures.enough c.meaning_laws.ensures.reached _ (history_of c.args.session.now) (history_of c.run-answer.new.self) c.args.text.now c.args.steps c.run-answer.result step.0 step.1 (sym c.fault_of.ensures ∙ c.in-None.is)
 
 pub returns-in-Some-clause-possible : goal.returns-in-Some-clause-possible
 returns-in-Some-clause-possible g c =

@@ -7,8 +7,7 @@ use Rattle.teco_exec.proofs.Continuations.{unbroken}
 use Rattle.teco_io.proofs.Shown.{Puts-after}
 use Rattle.teco_io.specs.Terminal.{Shows, Puts}
 use Rattle.teco_serve.specs.Exchange.{HasRung, allowance}
-use Rattle.teco_exec.specs.Laws.{EnoughIsEnough}
-use Rattle.teco_replay.specs.Laws.{LimitsAreReached}
+use Rattle.teco_exec.specs.Laws.{EnoughIsEnough, LimitsAreReached}
 use Rattle.teco_replay.specs.Told.{event_of_run}
 use Rattle.teco_serve.specs.Hearing.{HearsAll, HearsAllDone, told_alone}
 use Rattle.teco_serve.specs.Message.{message}
@@ -63,7 +62,7 @@ returns-then-is_terminal_failure g c =
         message-some c.args.settings.manner reply (failure-some c.args.settings.manner reply.answer failed),
       );
       err = message-no_exit c.args.settings.manner c.args.text.now (history_of c.args.session.now) (history_of c.match-bounds.session) reply.answer (failure-some c.args.settings.manner reply.answer failed) run.exit;
-      heard = told g (goal.at.returns-then-is_terminal_failure g c).Joined-bounds _ c.meaning_laws.ensures.enough c.replay_laws.ensures.reached c.tell_run.ensures;
+      heard = told g (goal.at.returns-then-is_terminal_failure g c).Joined-bounds _ c.meaning_laws.ensures.enough c.meaning_laws.ensures.reached c.tell_run.ensures;
     }
 
 pub returns : goal.returns
@@ -81,6 +80,6 @@ returns g c =
         on_err_weaker c.show_ending.result (message-some c.args.settings.manner reply) c.show_ending.ensures.some,
       );
       err = on_err_weaker c.show_ending.result (λ some. message-no_exit c.args.settings.manner c.args.text.now (history_of c.args.session.now) (history_of c.match-bounds.session) reply.answer some run.exit) c.show_ending.ensures.some;
-      heard = HearsAllDone-trans g.L.Listens.hears _ _ _ _ _ _ (told g (goal.at.returns g c).Joined-bounds _ c.meaning_laws.ensures.enough c.replay_laws.ensures.reached c.tell_run.ensures)
+      heard = HearsAllDone-trans g.L.Listens.hears _ _ _ _ _ _ (told g (goal.at.returns g c).Joined-bounds _ c.meaning_laws.ensures.enough c.meaning_laws.ensures.reached c.tell_run.ensures)
           (HearsAllDone-shown g.L.Listens.hears c.show_ending.result _ _ (history_of c.match-bounds.session) _ refl c.show_ending.ensures.heard c.show_ending.ensures.unheard);
     }
