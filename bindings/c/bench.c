@@ -24,7 +24,7 @@ int main(void)
 {
     struct teco t = {0};
     size_t pointer;
-    teco_open(&t, (const uint8_t *)"", 0, 100);
+    teco_open(&t, (const uint8_t *)"", 0, 0, 100);
     double start = now();
     for (int i = 0; i < CALLS; i++)
         run(&t, "J");
@@ -41,7 +41,7 @@ int main(void)
     printf("an undo with its redo    %.1f ns\n", (turned - ran) / CALLS);
     printf("a look at the pointer    %.1f ns\n", (looked - turned) / CALLS);
     teco_close(&t);
-    teco_open(&t, (const uint8_t *)"", 0, 0);
+    teco_open(&t, (const uint8_t *)"", 0, 0, 0);
     start = now();
     run(&t, "1000000<Ix\033>");
     ran = now();

@@ -102,16 +102,16 @@ static int has(const char *text)
 static void opens(void)
 {
     struct teco t = {0};
-    HOLDS(teco_open(&t, bytes(""), 0, TECO_DEPTH_LIMIT + 1) == TECO_DEEP && t.at == NULL);
+    HOLDS(teco_open(&t, bytes(""), 0, 0, TECO_DEPTH_LIMIT + 1) == TECO_DEEP && t.at == NULL);
     size_t too_many = (size_t)TECO_INPUT_LIMIT + 1;
     void *large = mmap(NULL, too_many, PROT_READ, MAP_PRIVATE | MAP_ANONYMOUS | MAP_NORESERVE, -1, 0);
-    HOLDS(large != MAP_FAILED && teco_open(&t, large, too_many, 0) == TECO_LARGE && t.at == NULL);
+    HOLDS(large != MAP_FAILED && teco_open(&t, large, too_many, 0, 0) == TECO_LARGE && t.at == NULL);
     munmap(large, too_many);
-    HOLDS(teco_open(&t, bytes("old"), 3, 2) == 0 && t.at != NULL);
+    HOLDS(teco_open(&t, bytes("old"), 3, 0, 2) == 0 && t.at != NULL);
     HOLDS(run(&t, "Y", 0) == 0);
-    HOLDS(teco_open(&t, bytes(""), 0, TECO_DEPTH_LIMIT + 1) == TECO_DEEP);
+    HOLDS(teco_open(&t, bytes(""), 0, 0, TECO_DEPTH_LIMIT + 1) == TECO_DEEP);
     HOLDS(teco_text(&t, 0, room, 64, &n) == 0 && has("old"));
-    HOLDS(teco_open(&t, bytes("new"), 3, 0) == 0);
+    HOLDS(teco_open(&t, bytes("new"), 3, 0, 0) == 0);
     HOLDS(teco_length(&t, &n) == 0 && n == 0);
     HOLDS(run(&t, "Y", 0) == 0 && teco_text(&t, 0, room, 64, &n) == 0 && has("new"));
     teco_close(&t);
@@ -120,10 +120,25 @@ static void opens(void)
     HOLDS(t.at == NULL);
 }
 
+/* Pages that end after so many lines, LF, VT or FF; of 0 lines no line ends one. */
+static void pages(void)
+{
+    static const char INPUT[] = "a\nb\vc\fd\ne";
+    struct teco t = {0};
+    HOLDS(teco_open(&t, bytes(INPUT), sizeof INPUT - 1, 2, 0) == 0 && run(&t, "Y", 0) == 0);
+    HOLDS(teco_text(&t, 0, room, 64, &n) == 0 && has("a\nb\v") && teco_form_feed(&t) == 0 && teco_place(&t, &n) == 0 && n == 4);
+    HOLDS(run(&t, "P", 0) == 0 && teco_text(&t, 0, room, 64, &n) == 0 && has("c") && teco_form_feed(&t) == 1);
+    HOLDS(run(&t, "P", 0) == 0 && teco_text(&t, 0, room, 64, &n) == 0 && has("d\ne") && run(&t, "EX", 0) == 0);
+    HOLDS(teco_output(&t, 0, room, 64, &n) == 0 && has(INPUT));
+    HOLDS(teco_open(&t, bytes(INPUT), sizeof INPUT - 1, SIZE_MAX, 0) == 0 && run(&t, "Y", 0) == 0);
+    HOLDS(teco_text(&t, 0, room, 64, &n) == 0 && has("a\nb\vc"));
+    teco_close(&t);
+}
+
 static void runs(void)
 {
     struct teco t = {0};
-    teco_open(&t, bytes(""), 0, 0);
+    teco_open(&t, bytes(""), 0, 0, 0);
     HOLDS(run(&t, "Iab\0332+3=", 64) == 0 && has("5\r\n") && steps == 5);
     memset(room, '.', sizeof room);
     HOLDS(run(&t, "2=12=", 4) == TECO_TTY && has("2\r\n") && room[3] == '.' && steps == 3);
@@ -141,7 +156,7 @@ static void runs(void)
 static void stops(void)
 {
     struct teco t = {0};
-    teco_open(&t, bytes(""), 0, 0);
+    teco_open(&t, bytes(""), 0, 0, 0);
     HOLDS(run(&t, "Iab\0332+3=", 64) == 0 && has("5\r\n") && steps == 5 && stopped(TECO_NOWHERE, 0));
     HOLDS(run(&t, "ZJ 9J", 64) == 20 && has("") && stopped(4, 0));
     HOLDS(run(&t, "2=12=", 4) == TECO_TTY && has("2\r\n") && steps == 3 && stopped(4, 0));
@@ -163,7 +178,7 @@ static void open_calls(void)
 {
     struct teco t = {0};
     struct teco_stopper here = {0}, there = {0};
-    teco_open(&t, bytes(""), 0, 0);
+    teco_open(&t, bytes(""), 0, 0, 0);
     HOLDS(frames(&t, "2=J", 3, &here) == 0 && has("2\r\n") && steps == 3 && stopped_inside(TECO_NOWHERE, 0) && is_untold(0) && here.at == NULL);
     HOLDS(frames(&t, "J 9J", 3, &here) == 20 && stopped(3, 0) && is_untold(0));
     HOLDS(frames(&t, "@^UA/J9J/@^U7/ MA/J J M7ZJ", 3, &here) == 20 && stopped_inside(2, 2) && stopped(22, 2));
@@ -184,7 +199,7 @@ static void breaks(void)
 {
     struct teco t = {0};
     struct teco_stopper here = {0}, there = {0};
-    teco_open(&t, bytes(""), 0, 0);
+    teco_open(&t, bytes(""), 0, 0, 0);
     HOLDS(teco_stop(&here, 1) == TECO_CLOSED && here.at == NULL);
     HOLDS(until(&t, "1=9J", 64, &here) == 20 && has("1\r\n") && steps == 4 && stopped(3, 0) && here.at == NULL);
     HOLDS(teco_stopper_open(&here, &there) == 0 && here.at != NULL && there.at != NULL);
@@ -254,10 +269,35 @@ static void tokens(void)
     HOLDS(token("\"x", 0) == TECO_IQC && read_there(0, 2, 0, 0));
 }
 
+/* Whether a source is answered so, and has told this line and column; and whether it stands for these bytes. */
+static int source(const char *text, size_t size, uint8_t code, uint64_t line, uint64_t column)
+{
+    struct teco_source told = {99, 99, 99};
+    memset(room, '.', sizeof room);
+    int is = teco_source(bytes(text), strlen(text), room, size, &told) == code && told.line == line && told.column == column;
+    n = told.made;
+    return is;
+}
+
+static int is_source(const char *text, const char *commands)
+{
+    return source(text, 64, 0, 0, 0) && has(commands) && room[n] == '.';
+}
+
+static void sources(void)
+{
+    HOLDS(is_source("", "") && is_source("  Iab$ !! a text\n  T\n", "Iab\033T") && is_source("#!/usr/bin/env\nJ$$\n", "J\033\033"));
+    HOLDS(is_source("Ia^Jb^~^$^`^!^.^?^[$", "Ia\nb^$'!\177\033\033") && is_source("^a^Z^_^=", "\001\032\037^") && is_source("Ia \n b", "Iab"));
+    HOLDS(is_source("#", "#") && is_source("!", "!") && is_source("Ia\\", "Ia\\"));
+    HOLDS(source("J^", 64, TECO_CARET, 1, 2) && n == 0 && source("^+", 64, TECO_CARET, 1, 1) && source("J\n\n ^5", 64, TECO_CARET, 3, 2));
+    HOLDS(source("J^+^+", 64, TECO_CARET, 1, 2) && n == 0 && room[0] == '.');
+    HOLDS(source("Iabc$", 2, 0, 0, 0) && n == 5 && memcmp(room, "Ia.", 3) == 0 && source("Iabc$", 0, 0, 0, 0) && n == 5 && room[0] == '.');
+}
+
 static void turns(void)
 {
     struct teco t = {0};
-    teco_open(&t, bytes(""), 0, 2);
+    teco_open(&t, bytes(""), 0, 0, 2);
     HOLDS(teco_undo(&t) == TECO_NTU && teco_redo(&t) == TECO_NTR && teco_rewind(&t, 1) == TECO_NTU);
     run(&t, "Ia\033", 0);
     run(&t, "Ib\033", 0);
@@ -287,7 +327,7 @@ static void looks(void)
 {
     struct teco t = {0};
     int32_t number;
-    teco_open(&t, bytes("one\ftwo"), 7, 0);
+    teco_open(&t, bytes("one\ftwo"), 7, 0, 0);
     HOLDS(teco_search(&t, room, 64, &n) == TECO_OUTSIDE && n == 0);
     HOLDS(teco_input(&t, 0, room, 64, &n) == 0 && has("one\ftwo") && teco_input(&t, 5, room, 64, &n) == 0 && has("wo"));
     HOLDS(teco_input(&t, 7, room, 64, &n) == 0 && has("") && teco_input(&t, SIZE_MAX, room, 64, &n) == 0 && has(""));
@@ -338,7 +378,7 @@ static void changes(void)
     struct teco t = {0};
     struct teco_change change = {1, 1, 1};
     struct teco_splice splice = {1, 1, 1};
-    teco_open(&t, bytes("one\ftwo"), 7, 0);
+    teco_open(&t, bytes("one\ftwo"), 7, 0, 0);
     HOLDS(run(&t, "Iabc\0339J7UQ", 0) == 20);
     HOLDS(run(&t, "-DIxy\033@^U9/text/[9]Z", 0) == 0);
     HOLDS(teco_changes(&t, 0, &n) == 0 && n == 1);
@@ -422,7 +462,7 @@ static void unwritten(void)
     struct teco *t = mmap(NULL, sizeof *t, PROT_READ, MAP_PRIVATE | MAP_ANONYMOUS, -1, 0);
     HOLDS(t != MAP_FAILED && told(t) == 0 && run(t, "Y", 64) == TECO_CLOSED);
     HOLDS(teco_undo(t) == TECO_CLOSED && teco_redo(t) == TECO_CLOSED && teco_rewind(t, 0) == TECO_CLOSED && teco_forget(t) == TECO_CLOSED);
-    HOLDS(mprotect(t, sizeof *t, PROT_READ | PROT_WRITE) == 0 && teco_open(t, bytes("one"), 3, 0) == 0);
+    HOLDS(mprotect(t, sizeof *t, PROT_READ | PROT_WRITE) == 0 && teco_open(t, bytes("one"), 3, 0, 0) == 0);
     HOLDS(mprotect(t, sizeof *t, PROT_READ) == 0);
     HOLDS(run(t, "YSe\033I.\033", 64) == 0 && told(t) == 22);
     HOLDS(teco_undo(t) == 0 && teco_redo(t) == 0 && teco_rewind(t, 1) == 0 && teco_undo(t) == 0 && teco_forget(t) == 0);
@@ -438,7 +478,7 @@ static void unwritten_stopper(void)
 {
     struct teco t = {0};
     struct teco_stopper there = {0}, *here = mmap(NULL, sizeof *here, PROT_READ, MAP_PRIVATE | MAP_ANONYMOUS, -1, 0);
-    teco_open(&t, bytes(""), 0, 0);
+    teco_open(&t, bytes(""), 0, 0, 0);
     HOLDS(here != MAP_FAILED && teco_stop(here, 1) == TECO_CLOSED && until(&t, "2=", 64, here) == 0);
     HOLDS(mprotect(here, sizeof *here, PROT_READ | PROT_WRITE) == 0 && teco_stopper_open(here, &there) == 0);
     HOLDS(mprotect(here, sizeof *here, PROT_READ) == 0);
@@ -455,7 +495,7 @@ static void many(void)
     for (int i = 0; i < 10000; i++) {
         struct teco t = {0};
         struct teco_stopper here = {0}, there = {0};
-        HOLDS(teco_open(&t, bytes("in"), 2, (size_t)i % 3) == 0 && teco_stopper_open(&here, &there) == 0);
+        HOLDS(teco_open(&t, bytes("in"), 2, 0, (size_t)i % 3) == 0 && teco_stopper_open(&here, &there) == 0);
         HOLDS(run(&t, "YIab\033UA[A", 0) != TECO_MEM);
         HOLDS(run(&t, "@^UA/3<9J>/2<MA>", 0) == 20 && stopped(13, 1));
         HOLDS(teco_stop(i % 2 ? &here : &there, (uint8_t)(i % 3)) == 0 && until(&t, "J", 0, &here) == (i % 3 ? TECO_LIM : 0));
@@ -475,13 +515,18 @@ static struct {
 } file;
 
 /* Puts the head, or the line of what was done, behind what the file has. */
-static uint8_t keep_head(const char *input, size_t depth)
+static uint8_t keep_head_of(const char *input, size_t lines, size_t depth)
 {
     file.line.room = file.at;
     file.line.room_size = sizeof file.at;
-    uint8_t code = teco_head(bytes(input), strlen(input), depth, &file.line);
+    uint8_t code = teco_head(bytes(input), strlen(input), lines, depth, &file.line);
     file.count = file.line.made;
     return code;
+}
+
+static uint8_t keep_head(const char *input, size_t depth)
+{
+    return keep_head_of(input, 0, depth);
 }
 
 static uint8_t keep(uint8_t kind, uint64_t number, const char *text)
@@ -506,7 +551,7 @@ static uint8_t run_kept(struct teco *t, const char *text)
 /* Makes a file of a session: text, an error, a limit, an undo, a redo, a rewind, undone strings that are dropped, and one that is undone. */
 static void make_file(struct teco *t, size_t depth)
 {
-    HOLDS(teco_open(t, bytes("one\ntwo"), 7, depth) == 0 && keep_head("one\ntwo", depth) == 0);
+    HOLDS(teco_open(t, bytes("one\ntwo"), 7, 0, depth) == 0 && keep_head("one\ntwo", depth) == 0);
     HOLDS(run_kept(t, "Y5UQ") == 0 && run_kept(t, "Ia\033Sx\033") == 22 && run_kept(t, "<Ib\033>") == TECO_LIM);
     HOLDS(teco_undo(t) == 0 && keep(TECO_UNDID, 0, "") == 0 && teco_redo(t) == 0 && keep(TECO_REDID, 0, "") == 0);
     HOLDS(teco_rewind(t, 4) == 0 && keep(TECO_REWOUND, 4, "") == 0 && teco_undo(t) == 0 && keep(TECO_UNDID, 0, "") == 0);
@@ -548,6 +593,19 @@ static void a_session_is_kept_and_opened_again(void)
         teco_close(&t);
         teco_close(&again);
     }
+}
+
+static void pages_of_lines_are_kept(void)
+{
+    struct teco t = {0}, again = {0};
+    struct teco_resumed resumed;
+    HOLDS(keep_head_of("one\ntwo\nthree", 1, 0) == 0 && teco_open(&t, bytes("one\ntwo\nthree"), 13, 1, 0) == 0);
+    HOLDS(run_kept(&t, "Y") == 0 && teco_resume(&again, file.at, file.count, &resumed) == 0 && are_alike(&t, &again));
+    HOLDS(run(&again, "P", 0) == 0 && teco_text(&again, 0, room, 64, &n) == 0 && has("two\n"));
+    HOLDS(keep_head("one\ntwo\nthree", 0) == 0 && keep(TECO_RAN, steps, "Y") == 0);
+    HOLDS(teco_resume(&again, file.at, file.count, &resumed) == 0 && teco_text(&again, 0, room, 64, &n) == 0 && has("one\ntwo\nthree"));
+    teco_close(&t);
+    teco_close(&again);
 }
 
 /* Whether the file is refused so, and the handle and what is told stay. */
@@ -600,20 +658,23 @@ static void a_line_that_does_not_fit_is_not_copied(void)
         line.kind = (uint8_t)kind;
         HOLDS(teco_record(bytes(""), 0, &line) == TECO_OUTSIDE && line.made == 0 && memcmp(line.check, before.check, 16) == 0);
     }
-    HOLDS(teco_head(bytes("one"), 3, 0, &line) == 0 && line.made > 23 && memcmp(small + 16, " undo\n.", 7) == 0);
+    HOLDS(teco_head(bytes("one"), 3, 0, 0, &line) == 0 && line.made > 23 && memcmp(small + 16, " undo\n.", 7) == 0);
 }
 
 int main(void)
 {
     a_session_is_kept_and_opened_again();
+    pages_of_lines_are_kept();
     a_file_ends_anywhere_and_is_changed_anywhere();
     a_line_that_does_not_fit_is_not_copied();
     opens();
+    pages();
     runs();
     stops();
     breaks();
     open_calls();
     tokens();
+    sources();
     turns();
     looks();
     changes();

@@ -29,7 +29,7 @@ static void run(struct teco *t, const char *string)
 int main(void)
 {
     struct teco t = {0};
-    if (teco_open(&t, (const uint8_t *)"a cat sat", 9, 0) != 0)
+    if (teco_open(&t, (const uint8_t *)"a cat sat", 9, 0, 0) != 0)
         return 1;
     run(&t, "Y");
     run(&t, "FScat$dog$");

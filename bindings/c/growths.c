@@ -85,9 +85,9 @@ static long try(long nth)
 {
     struct teco t = {0}, twin = {0};
     long counted = 0;
-    teco_open(&twin, (const uint8_t *)"one\ftwo", 7, 5);
+    teco_open(&twin, (const uint8_t *)"one\ftwo", 7, 0, 5);
     begin(nth, nth);
-    int opened = teco_open(&t, (const uint8_t *)"one\ftwo", 7, 5);
+    int opened = teco_open(&t, (const uint8_t *)"one\ftwo", 7, 0, 5);
     counted += end();
     if (opened != 0 && (opened != TECO_MEM || t.at != NULL))
         wrong("a refused open is told or left otherwise", nth, -1);
@@ -147,7 +147,7 @@ static long try_file(long nth)
     struct teco_line line = {.kind = TECO_RAN, .steps = 1, .room = file, .room_size = sizeof file}, before;
     struct teco_resumed resumed = {.good = 7};
     begin(nth, nth);
-    int codes[3] = {teco_head((const uint8_t *)"one", 3, 0, &line)};
+    int codes[3] = {teco_head((const uint8_t *)"one", 3, 0, 0, &line)};
     size_t count = line.made;
     before = line;
     line.room += count;
@@ -165,6 +165,21 @@ static long try_file(long nth)
     }
     teco_close(&t);
     return codes[0] == 0 && codes[1] == 0 && codes[2] == 0 ? 0 : counted;
+}
+
+/* A source, of which this growth is refused: then nothing is told and copied. Tells how many growths there were, or 0 where none was refused. */
+static long try_source(long nth)
+{
+    static const char SOURCE[] = "Iab  cd$ !! a text\n  <FSa$b$;>EX$$\n";
+    static uint8_t room[64];
+    struct teco_source told = {9, 9, 9};
+    room[0] = '.';
+    begin(nth, nth);
+    int code = teco_source((const uint8_t *)SOURCE, sizeof SOURCE - 1, room, sizeof room, &told);
+    long counted = end();
+    if (code == 0 ? told.made != 21 : code != TECO_MEM || told.made != 0 || told.line != 0 || told.column != 0 || room[0] != '.')
+        wrong("a refused source is told", nth, code);
+    return code == 0 ? 0 : counted;
 }
 
 int main(void)
@@ -190,5 +205,10 @@ int main(void)
         refused++;
     printf("growths: %ld refused in turn, of a session's file: %s\n", refused, failed ? "differs" : "ok");
     failed |= refused < 9;
+    refused = 0;
+    while (refused < NEVER && try_source(refused + 1) > 0)
+        refused++;
+    printf("growths: %ld refused in turn, of a source: %s\n", refused, failed ? "differs" : "ok");
+    failed |= refused < 2;
     return failed;
 }

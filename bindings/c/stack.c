@@ -28,7 +28,7 @@ static void *run(void *answer)
     struct teco t = {0};
     uint8_t room[16];
     struct teco_run run = {.limit = 1000000, .room = room, .room_size = sizeof room, .frames = TECO_NO_FRAMES};
-    teco_open(&t, (const uint8_t *)"", 0, 0);
+    teco_open(&t, (const uint8_t *)"", 0, 0, 0);
     int code = teco_run(&t, string, deep->size, &run);
     if (run.calls == deep->calls)
         deep->code = code;

@@ -42,7 +42,7 @@ int main(void)
     struct teco_stopper there = {0};
     uint8_t room[80];
     struct teco_run run = {.limit = 1000000000, .room = room, .room_size = sizeof room, .frames = TECO_NO_FRAMES};
-    if (teco_open(&t, (const uint8_t *)"", 0, 0) != 0 || teco_stopper_open(&run.stopper, &there) != 0)
+    if (teco_open(&t, (const uint8_t *)"", 0, 0, 0) != 0 || teco_stopper_open(&run.stopper, &there) != 0)
         return 1;
     run_and_break_off(&t, &run, &there);
     show(&t, "kept");

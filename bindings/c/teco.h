@@ -29,7 +29,7 @@
  * ANSWERS
  *   0 is success. 1 to 32 are the numbers of the codes by which a command string, or a call, ends; those that a call itself can lead
  *   to have their names below. The four calls at the end answer 1 and 0 for yes and no. Each other call that answers something else
- *   than 0 has changed nothing, told 0 and copied nothing. Only teco_run and teco_token say otherwise.
+ *   than 0 has changed nothing, told 0 and copied nothing. Only teco_run, teco_token and teco_source say otherwise.
  *
  * THREADS AND SIGNALS
  *   The handle of a session stays on the thread that opened it. Different sessions share nothing, and may be in calls at the same time on
@@ -84,6 +84,7 @@ enum {
     TECO_NTU = 30,        /* there is nothing to undo */
     TECO_NTR = 31,        /* there is nothing to redo */
     TECO_END = 32,        /* an exit has ended the session */
+    TECO_CARET = 246,     /* a caret of a source stands before what it can't stand before */
     TECO_CHANGED_HEAD = 247, /* the bytes begin with no head of a session's file, of this version and as it was written */
     TECO_TORN_HEAD = 248, /* the bytes end before the head of a session's file does */
     TECO_OTHERWISE = 249, /* a string does not run again as it ran */
@@ -133,11 +134,12 @@ enum {
 };
 
 /*
- * Opens a session over a copy of n bytes of input, that keeps the last `depth` strings, or all of them where depth is 0.
+ * Opens a session over a copy of n bytes of input. A page of it ends at a form feed, and after `lines` line ends too, or after any number
+ * of them where that is 0. It keeps the last `depth` strings, or all of them where depth is 0.
  * 0, TECO_LARGE, TECO_DEEP or TECO_MEM. Where it isn't 0 the handle is as it was: a closed one stays closed, and an open one keeps its
  * session. Where it is 0, a session that was open in the handle is freed.
  */
-uint8_t teco_open(struct teco *t, const uint8_t *input, size_t n, size_t depth);
+uint8_t teco_open(struct teco *t, const uint8_t *input, size_t n, size_t lines, size_t depth);
 
 /* Gives back all memory of the session, and leaves the handle closed and all zero. */
 void teco_close(struct teco *t);
@@ -249,10 +251,10 @@ struct teco_line {
 };
 
 /*
- * The head of the file of a session that is opened over this input of n bytes and with this depth: 0 or TECO_MEM. It has the input, and
- * some hundred bytes beside.
+ * The head of the file of a session that is opened over this input of n bytes, with these lines and this depth: 0 or TECO_MEM. It has the
+ * input, and some hundred bytes beside.
  */
-uint8_t teco_head(const uint8_t *input, size_t n, size_t depth, struct teco_line *line);
+uint8_t teco_head(const uint8_t *input, size_t n, size_t lines, size_t depth, struct teco_line *line);
 
 /*
  * The line of what a request did: 0, TECO_OUTSIDE where nothing has the number of its kind, or TECO_MEM. Of TECO_RAN the text of n bytes is
@@ -265,6 +267,7 @@ struct teco_resumed {
     uint8_t check[16]; /* the check of the last line that was read, for the next line */
     size_t good;       /* so many bytes were read; those after them have to be cut off before the next line is written */
     size_t records;    /* so many requests were done again */
+    size_t lines;      /* a page of its input ends after so many line ends too, or with 0 after any number of them */
     uint8_t ending;    /* why the reading ended there, by its number below */
 };
 
@@ -297,6 +300,21 @@ struct teco_token {
  * read. Then `from` is the place after the fillers, `to` is n, and `kind` and `size` are 0. Asks for no memory.
  */
 uint8_t teco_token(const uint8_t *text, size_t n, size_t at, struct teco_token *token);
+
+/* What is told of a source. */
+struct teco_source {
+    size_t made;     /* it stands for so many bytes */
+    uint64_t line;   /* the line and the column of the caret by which it can't be read, each from 1; */
+    uint64_t column; /* or 0 */
+};
+
+/*
+ * Reads a source of n bytes, of no session: the form in which `teco -f` reads commands. `$` is ESC and ^J a line end; line ends and margins
+ * are layout, and `!!` begins a comment. docs/LANGUAGE.md has the whole of it.
+ * 0, TECO_CARET or TECO_MEM. Where it is 0, the bytes that the source stands for are in the room, as many as it has room for; `made` is how
+ * many they are, never more than n. Else nothing is copied, and `made` is 0.
+ */
+uint8_t teco_source(const uint8_t *source, size_t n, uint8_t *room, size_t size, struct teco_source *told);
 
 /* All that follows looks: it asks for no memory and changes nothing, neither the handle nor what it leads to. */
 

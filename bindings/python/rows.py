@@ -10,7 +10,8 @@ import tempfile
 import threading
 
 from teco import (CHANGED_HEAD, CLOSED, DEEP, END, IQC, IQN, ILL, LIM, NO_TOKEN, NTR, NTU, OTHERWISE, OUTSIDE, POP, RAN, TORN_HEAD, TTY, UNDID,
-                  UTC, Call, Damaged, Frames, Place, Refused, Session, Stopper, Token, resume, token)
+                  UTC, Call, Damaged, Frames, Place, Refused, Session, Stopper, Token, Unreadable,
+                  resume, source, token)
 
 failed = False
 
@@ -79,6 +80,18 @@ def tokens():
     holds(token(b"Iab\x1b") == Token(0, 0, 4, "text", 2) and token(b"!tag!") == Token(0, 0, 5, "tag", 3), "token with a text")
     holds(token(b"J", 9) == Token(NO_TOKEN, 1, 1, None, 0) and token(b" Iab") == Token(UTC, 1, 4, None, 0), "no token")
     holds([token(text).code for text in (b"W", b"Q!", b"\"x")] == [ILL, IQN, IQC], "faults")
+
+
+def sources():
+    holds(source(b"  Iab$ !! a text\n  T\n") == b"Iab\x1bT" and source(bytearray(b"^J^@")) == b"\n\0" and source(b"") == b"", "source")
+    try:
+        source(b"J\n ^5")
+    except Unreadable as fault:
+        holds((fault.line, fault.column) == (2, 2), "the place of a caret")
+    else:
+        holds(False, "a caret")
+    for value in ("J", 5, None):
+        refused(TypeError, lambda: source(value), f"source {value!r}")
 
 
 def refusals():
@@ -253,6 +266,21 @@ def keeps(folder):
         holds(len(bytes_of(path)) == size, "another session in its place")
 
 
+def pages(folder):
+    """A page ends after its lines too, also of a session that is opened again."""
+    path = os.path.join(folder, "pages")
+    session = Session(b"a\nb\nc", file=path, page_lines=1)
+    session.run(b"Y")
+    holds(session.text == b"a\n" and not session.form_feed, "a page of a line")
+    session.__init__(b"x\ny")
+    holds(session.run(b"YHT")[1] == b"x\ny", "any number of lines")
+    session = resume(path)
+    session.run(b"P")
+    holds(session.text == b"b\n", "opened again")
+    for value, error in ((-1, ValueError), (2**64, OverflowError), ("1", TypeError)):
+        refused(error, lambda: Session(b"", page_lines=value), f"page lines {value!r}")
+
+
 def damages(folder):
     path = os.path.join(folder, "damages")
     session = Session(b"one", file=path)
@@ -344,7 +372,7 @@ def kept_elsewhere(folder):
 
 def files():
     with tempfile.TemporaryDirectory() as folder:
-        for rows in keeps, damages, unwritten, interrupts_kept:
+        for rows in keeps, pages, damages, unwritten, interrupts_kept:
             rows(folder)
         thread = threading.Thread(target=kept_elsewhere, args=[folder])
         thread.start()
@@ -353,6 +381,7 @@ def files():
 
 calls()
 tokens()
+sources()
 refusals()
 copies()
 threads()

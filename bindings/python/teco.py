@@ -25,7 +25,7 @@ from teco_interrupts import breaking_off, is_main
 
 ILL, IQC, IQN, POP, UTC, LIM = 7, 9, 10, 20, 24, 27
 MEM, TTY, NTU, NTR, END = 28, 29, 30, 31, 32
-CHANGED_HEAD, TORN_HEAD, OTHERWISE = 247, 248, 249
+CARET, CHANGED_HEAD, TORN_HEAD, OTHERWISE = 246, 247, 248, 249
 NO_TOKEN, OUTSIDE, NOT_BEGUN, DEEP, LARGE, CLOSED = 250, 251, 252, 253, 254, 255
 RAN, UNDID, REDID, REWOUND, FORGOT = 1, 2, 3, 4, 5
 WHOLE, TORN, CHANGED, UNKNOWN = 0, 1, 2, 3
@@ -76,6 +76,10 @@ class ToldToken(ctypes.Structure):
     _fields_ = [("from", c_size_t), ("to", c_size_t), ("kind", c_uint8), ("size", c_size_t)]
 
 
+class ToldSource(ctypes.Structure):
+    _fields_ = [("made", c_size_t), ("line", c_uint64), ("column", c_uint64)]
+
+
 class ToldChange(ctypes.Structure):
     _fields_ = [("kind", c_uint8), ("name", c_uint8), ("step", c_uint64)]
 
@@ -94,7 +98,7 @@ class Line(ctypes.Structure):
 
 
 class ToldSession(ctypes.Structure):
-    _fields_ = [("check", Check), ("good", c_size_t), ("records", c_size_t), ("ending", c_uint8)]
+    _fields_ = [("check", Check), ("good", c_size_t), ("records", c_size_t), ("lines", c_size_t), ("ending", c_uint8)]
 
 
 def _calls():
@@ -102,7 +106,7 @@ def _calls():
     size, word = POINTER(c_size_t), POINTER(c_uint64)
     room = [c_void_p, c_size_t]
     return {
-        "open": [c_void_p, c_size_t, c_size_t], "resume": [c_void_p, c_size_t, POINTER(ToldSession)],
+        "open": [c_void_p, c_size_t, c_size_t, c_size_t], "resume": [c_void_p, c_size_t, POINTER(ToldSession)],
         "run": [c_void_p, c_size_t, POINTER(Run)],
         "undo": [], "redo": [], "rewind": [c_uint64], "forget": [],
         "strings": [size], "cursor": [size], "steps": [c_size_t, word],
@@ -124,7 +128,8 @@ def _library():
         call.argtypes, call.restype = [POINTER(Handle), *arguments], c_uint8
     library.teco_close.argtypes, library.teco_close.restype = [POINTER(Handle)], None
     library.teco_token.argtypes, library.teco_token.restype = [c_void_p, c_size_t, c_size_t, POINTER(ToldToken)], c_uint8
-    library.teco_head.argtypes, library.teco_head.restype = [c_void_p, c_size_t, c_size_t, POINTER(Line)], c_uint8
+    library.teco_source.argtypes, library.teco_source.restype = [c_void_p, c_size_t, c_void_p, c_size_t, POINTER(ToldSource)], c_uint8
+    library.teco_head.argtypes, library.teco_head.restype = [c_void_p, c_size_t, c_size_t, c_size_t, POINTER(Line)], c_uint8
     library.teco_record.argtypes, library.teco_record.restype = [c_void_p, c_size_t, POINTER(Line)], c_uint8
     stopper = POINTER(StopperHandle)
     library.teco_stopper_open.argtypes, library.teco_stopper_open.restype = [stopper, stopper], c_uint8
@@ -187,6 +192,26 @@ def token(text, at=0):
     text, told = _bytes(text), ToldToken()
     code = _teco().teco_token(text, len(text), _size(at), byref(told))
     return Token(code, getattr(told, "from"), told.to, TOKENS[told.kind], told.size)
+
+
+class Unreadable(Exception):
+    """A caret of a source stands before what it can't stand before: at this `line` and `column`, each from 1."""
+
+    def __init__(self, line, column):
+        super().__init__(f"{line}:{column}: a caret before what it cannot stand before")
+        self.line, self.column = line, column
+
+
+def source(text):
+    """The bytes that a source stands for: `$` is ESC and `^J` a line end, line ends and margins are layout, and `!!` begins a comment."""
+    text, told = _bytes(text), ToldSource()
+    room = _room(len(text))
+    code = _teco().teco_source(text, len(text), room, len(text), byref(told))
+    if code == CARET:
+        raise Unreadable(told.line, told.column)
+    if code:
+        raise MemoryError
+    return room.raw[:told.made]
 
 
 class Refused(Exception):
@@ -273,7 +298,8 @@ class Stopper:
 
 
 class Session:
-    """An open session over a copy of the input, that keeps the last `depth` strings, or all of them where that is 0.
+    """An open session over a copy of the input, that keeps the last `depth` strings, or all of them where that is 0. A page of the input
+    ends at a form feed, and after so many `page_lines` too, or after any number of them where that is 0.
 
     `file` is the path of a new file: the head is written before this returns, and then the line of each run, undo, redo, rewind and forget
     before that returns. A call that is Refused has none. If a write fails, OSError is raised, but the request is done: its line comes with
@@ -286,14 +312,14 @@ class Session:
         session._file, session._line, session._unkept = None, Line(), []
         return session
 
-    def __init__(self, text=b"", depth=0, file=None):
-        text, depth = _bytes(text), _size(depth)
-        self._call("open", text, len(text), depth)
+    def __init__(self, text=b"", depth=0, file=None, page_lines=0):
+        text, depth, lines = _bytes(text), _size(depth), _size(page_lines)
+        self._call("open", text, len(text), lines, depth)
         self._leave_file()
         if file is None:
             return
         try:
-            self._file = begun(file, self._made(lambda line: _teco().teco_head(text, len(text), depth, line)))
+            self._file = begun(file, self._made(lambda line: _teco().teco_head(text, len(text), lines, depth, line)))
         except BaseException:
             self.close()
             raise

@@ -187,14 +187,26 @@ static const struct {
 } SEQUENCES[] = {{"A", UP}, {"B", DOWN}, {"C", RIGHT}, {"D", LEFT}, {"H", HOME}, {"1~", HOME}, {"7~", HOME}, {"F", END}, {"4~", END},
     {"8~", END}, {"5~", PAGE_UP}, {"6~", PAGE_DOWN}, {"3~", ERASE}, {"1;3A", OLDER}, {"1;3B", NEWER}, {"P", HELP}, {"11~", HELP},
     {"[A", HELP}, {"Q", PANE}, {"12~", PANE}, {"[B", PANE}, {"R", SAVE}, {"13~", SAVE}, {"[C", SAVE}, {"15~", NEXT_CHANGE}, {"[E", NEXT_CHANGE},
-    {"17~", CHANGE_BEFORE}, {"18~", LINE_NUMBERS}, {"1;2A", ROW_UP}, {"1;2B", ROW_DOWN}, {"a", ROW_UP}, {"b", ROW_DOWN}, {"5;5~", SCREEN_UP},
-    {"6;5~", SCREEN_DOWN}};
+    {"17~", CHANGE_BEFORE}, {"18~", LINE_NUMBERS}, {"19~", OLD_TEXT}, {"1;2A", ROW_UP}, {"1;2B", ROW_DOWN}, {"a", ROW_UP}, {"b", ROW_DOWN},
+    {"5;5~", SCREEN_UP}, {"6;5~", SCREEN_DOWN}, {"S", RUN}, {"14~", RUN}, {"[D", RUN}, {"1;3C", INDENT}, {"1;3D", OUTDENT}};
 
 /* What a mouse tells: behind ESC [ < the number of a button, whose bits 4, 8 and 16 are keys that are held, and then the place. */
 static enum sequence mouse(const uint8_t *bytes)
 {
     long button = strtol((const char *)bytes + 3, NULL, 10) & ~28L;
     return button == 64 ? WHEEL_UP : button == 65 ? WHEEL_DOWN : MOUSE;
+}
+
+/* The key that it is with Alt. */
+static enum sequence with_alt(enum sequence key)
+{
+    switch (key) {
+    case UP: return OLDER;
+    case DOWN: return NEWER;
+    case RIGHT: return INDENT;
+    case LEFT: return OUTDENT;
+    default: return OTHER;
+    }
 }
 
 enum sequence sequence_of(const uint8_t *bytes, size_t n)
@@ -207,5 +219,5 @@ enum sequence sequence_of(const uint8_t *bytes, size_t n)
         if (n == strlen(SEQUENCES[i].sent) + from && memcmp(bytes + from, SEQUENCES[i].sent, n - from) == 0)
             key = SEQUENCES[i].key;
     }
-    return !has_alt ? key : key == UP ? OLDER : key == DOWN ? NEWER : OTHER;
+    return !has_alt ? key : with_alt(key);
 }

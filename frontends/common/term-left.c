@@ -12,13 +12,14 @@ static const uint8_t *bytes_of(const struct bytes *bytes)
 static enum fate begin(struct work *work)
 {
     struct bytes *input = work->is_saved ? &work->saved : &work->input;
-    size_t depth = (size_t)work->options->depth;
-    if (teco_open(&work->session, bytes_of(input), input->count, depth) != 0)
+    size_t lines = (size_t)work->options->lines, depth = (size_t)work->options->depth;
+    if (teco_open(&work->session, bytes_of(input), input->count, lines, depth) != 0)
         return NO_MEMORY;
     work->size = input->count;
+    work->lines = work->options->lines;
     work->is_left = work->is_saved = false;
     work->verified = 0;
-    keep_begin(&work->keeper, bytes_of(input), input->count, depth);
+    keep_begin(&work->keeper, bytes_of(input), input->count, lines, depth);
     keep_want(&work->keeper, false);
     bytes_free(input);
     return GOES_ON;
@@ -155,6 +156,7 @@ static enum fate go_on(struct work *work)
         work->known = (struct stat){0};
     bytes_free(&work->input);
     keep_go_on(&work->keeper, &work->resumed);
+    work->lines = work->resumed.lines;
     work->is_gone_on = true;
     if (teco_done(&work->session) == 1)
         (void)work_undo(work, 1);

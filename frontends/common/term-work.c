@@ -43,11 +43,6 @@ void work_close(struct work *work, enum fate fate)
     free(work->room);
 }
 
-static bool is_filler(uint8_t byte)
-{
-    return byte == ' ' || byte == RETURN || byte == LINE_FEED || byte == 0;
-}
-
 /* What is left of n bytes without the fillers at either end; n is how many they are then. */
 static const uint8_t *without_fillers(const uint8_t *text, size_t *n)
 {

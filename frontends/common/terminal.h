@@ -1,12 +1,12 @@
 /*
  * terminal.h - what the programs for a person at a terminal share: teco-term, and teco-screen of frontends/screen
  *
- * term-options.c reads the line of a program, and says how it ended. term-work.c does what a string asks, over a session; term-keep.c keeps
- * the session in a file, and term-left.c goes on with one that was left; term-journal.c has the strings for the screen; term-save.c writes
- * what an exit would, and goes on; term-past.c keeps all that were ever run, so that they come back as text. term-codes.c has the sentences
- * of the codes. term-file.c reads
- * INPUT and writes the output; term-tty.c sets the terminal, and term-read.c reads it, also while a string runs; term-keys.c tells keys,
- * sequences and pastes apart. line-edit.c has the string that is typed, and line-recall.c brings back those before.
+ * term-options.c reads the line of a program, and says how it ended; term-sources.c reads the sources that it names. term-work.c does what a
+ * string asks, over a session; term-keep.c keeps the session in a file, and term-left.c goes on with one that was left; term-journal.c has
+ * the strings for the screen; term-save.c writes what an exit would, and goes on; term-past.c keeps all that were ever run, so that they come
+ * back as text. term-codes.c has the sentences of the codes. term-file.c reads INPUT and writes the output; term-tty.c sets the terminal, and
+ * term-read.c reads it, also while a string runs; term-keys.c tells keys, sequences and pastes apart. line-edit.c has the string that is
+ * typed, and line-recall.c brings back those before.
  */
 #ifndef TERMINAL_H
 #define TERMINAL_H
@@ -32,13 +32,19 @@ enum { BELL = 7, TAB = 9, LINE_FEED = 10, RETURN = 13, ESCAPE = 27, DELETE = 127
 
 /* How the program ends, where it doesn't go on. */
 enum fate {
-    GOES_ON, EXIT, SAVED, END_OF_COMMANDS, TERMINAL_GONE, NO_INPUT, LARGE_INPUT, NO_OUTPUT, CHANGED_FILE, NO_TERMINAL, POOR_TERMINAL, READ_FAULT, SHOW_FAULT,
-    NO_MEMORY
+    GOES_ON, EXIT, SAVED, END_OF_COMMANDS, TERMINAL_GONE, NO_INPUT, LARGE_INPUT, BAD_SOURCE, NO_OUTPUT, CHANGED_FILE, NO_TERMINAL,
+    POOR_TERMINAL, READ_FAULT, SHOW_FAULT, NO_MEMORY
 };
 
 static inline enum fate shown(bool is_shown)
 {
     return is_shown ? GOES_ON : SHOW_FAULT;
+}
+
+/* A byte that is skipped between commands. */
+static inline bool is_filler(uint8_t byte)
+{
+    return byte == ' ' || byte == RETURN || byte == LINE_FEED || byte == 0;
 }
 
 /* Bytes that grow. All zero they are none. */
@@ -58,8 +64,11 @@ struct options {
     char **inputs; /* so many INPUTs, one after another; and the one that is edited */
     int count;
     const char *input, *output; /* the output's name may be none: INPUT.out then, or INPUT where that isn't there yet */
-    uint64_t limit, depth;
+    uint64_t limit, depth, lines; /* of a page, or 0 for any number */
     bool in_place, steps, help, version;
+    const char **files;        /* so many files of sources, */
+    int file_count;
+    struct bytes strings;      /* and the bytes that they stand for, one after another */
 };
 
 /* What differs between the programs. */
@@ -70,6 +79,17 @@ struct program {
 
 /* Reads the line. -1 if the program goes on, or else the status with which it ends: after its help or its version, or of a faulty line. */
 int options_read(const struct program *program, int count, char **words, struct options *options);
+
+/* The status that one INPUT has, or a source: says on standard error what there is to say. */
+int conclude(const struct program *program, const char *name, enum fate fate);
+
+/* Reads the sources of the line. -1, or else the status with which the program ends, and it is said why. */
+int sources_read(const struct program *program, struct options *options);
+
+/* The string of the sources that begins at a place, n bytes with the first ESC of its pair; the place then is behind the pair. Null where no
+   pair is left. And what there is to tell of the bytes from a place on, since they were not run: false where there are none but fillers. */
+const uint8_t *sources_next(const struct bytes *strings, size_t *at, size_t *n);
+bool sources_tell(const struct bytes *strings, size_t at, char *text, size_t size);
 
 /* Edits one INPUT after another, as long as each ends by an exit or can't be read. The status of the program. Says on standard error what
    there is to say. */
@@ -162,7 +182,7 @@ void keep_open(struct keeper *keeper, const char *input, bool is_beside);
 enum fate keep_read(const struct keeper *keeper, struct bytes *to, time_t *when);
 
 /* Begins the file anew over n bytes of INPUT, or goes on behind what was read of it. */
-void keep_begin(struct keeper *keeper, const uint8_t *input, size_t n, size_t depth);
+void keep_begin(struct keeper *keeper, const uint8_t *input, size_t n, size_t lines, size_t depth);
 void keep_go_on(struct keeper *keeper, const struct teco_resumed *resumed);
 
 /* Adds the line of a request. Before its answer is shown, keep_sync waits until all lines outlast a crash of the machine. Where one can't be
@@ -225,6 +245,7 @@ struct work {
     struct teco_stopper asked, asks; /* a run is asked to stop, and the keys ask it */
     size_t size;              /* of INPUT, */
     bool is_new;              /* which wasn't there */
+    uint64_t lines;           /* of a page, or 0 for any number */
     struct stat known;        /* the file that may be replaced, as it was read or written here, or as a person was told of it */
     char *output;             /* the name of the output, */
     char wrote[WROTE];        /* and what was written, or nothing */

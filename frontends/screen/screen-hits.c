@@ -69,7 +69,7 @@ void mark_hits(struct view *view, const struct window *window, const uint8_t *te
     size_t searched = BYTES_OF_CELL * window->rows * window->columns;
     searched = searched < SEARCHED ? searched : SEARCHED;
     searched = searched < view->count ? searched : view->count;
-    if (!write_string(&string, view, searched, text, n, is_either_case) || teco_open(&session, text, 0, 1) != 0)
+    if (!write_string(&string, view, searched, text, n, is_either_case) || teco_open(&session, text, 0, 0, 1) != 0)
         return;
     (void)teco_run(&session, string.at, string.count, &run);
     mark_taken(&session, view);

@@ -146,6 +146,7 @@ static bool changes_look(struct screen *screen, enum sequence key)
     switch (key) {
     case PANE: turn_pane(); break;
     case LINE_NUMBERS: turn_numbers(); break;
+    case OLD_TEXT: turn_old(); break;
     case NEXT_CHANGE: case CHANGE_BEFORE: seek_change(screen, key); break;
     default: return false;
     }
@@ -184,9 +185,11 @@ static enum fate press_sequence(void *to, const uint8_t *bytes, size_t n)
     }
     if (key == OLDER || key == NEWER)
         return recall(screen, key == OLDER);
+    if (!screen->is_naming && is_short(screen, key))
+        return screen_run_short(screen, key);
     if (!is_empty)
         return obey(screen, line_move(&screen->line, key));
-    if (key == OTHER || key == ERASE)
+    if (key == OTHER || key == ERASE || key == RUN)
         return ring();
     if (key != UP && key != DOWN && key != SAVE)
         return step(screen, key);

@@ -7,13 +7,15 @@ size_t row_of_pointer(const struct view *view, size_t rows, size_t columns)
     struct walk walk = {.columns = columns};
     if (view->pointer < view->from)
         return rows;
-    size_t at = 0, pointer = view->pointer - view->from;
+    size_t at = 0, old = 0, pointer = view->pointer - view->from;
     while (walk.row < rows && at < view->count && at < pointer) {
+        walk_over_old(&walk, view, at, &old);
         struct glyph glyph = glyph_at(view->bytes, view->count, at, pointer, walk.column);
         walk_to(&walk, &glyph);
         walk_behind(&walk, &glyph);
         at += glyph.bytes;
     }
+    walk_over_old(&walk, view, at, &old);
     return at < pointer ? rows : walk.row + (walk.column >= columns);
 }
 
@@ -95,6 +97,7 @@ void look(const struct teco *t, struct view *view, const struct window *window)
     (void)teco_place(t, &view->place);
     (void)teco_output(t, 0, view->typed, 0, &view->output);
     view->is_done = teco_done(t) == 1;
+    view->old_count = 0;
     look_at_registers(t, view);
     find_window(t, view, window);
     view->is_missed = false;

@@ -5,14 +5,18 @@
 
 enum { PIECES = 4096, MOST_CHANGES = 300000 };
 
-/* So many bytes of the window from `shown` on, which stood at a place of the text. */
+/* So many bytes from `shown` on, among those of the window and the one before it, which stood at a place of the text. */
 struct piece {
     size_t shown, count, stood;
 };
 
-/* The pieces, in the order of their places, and the view whose bytes they are. */
+/* The pieces, in the order of their places, and the view whose bytes they are. They don't tell where all old text stood, if there were too many,
+   or a page was read. */
 struct pieces {
     struct view *view;
+    size_t first;            /* the window begins here among the bytes: at 1, or at 0 where the text begins */
+    uint8_t marks[SHOWN + 2];
+    bool is_vague;
     size_t count;
     struct piece at[PIECES];
 };
@@ -47,8 +51,10 @@ static void cut_piece(struct pieces *pieces, size_t i, size_t first, size_t last
     struct piece before = {piece.shown, first - piece.stood, piece.stood};
     struct piece after = {piece.shown + (last - piece.stood), end - last, splice->at + splice->came};
     size_t parts = (before.count > 0) + (after.count > 0);
-    if (parts == 2 && pieces->count == PIECES)
+    if (parts == 2 && pieces->count == PIECES) {
+        pieces->is_vague = true;
         return;
+    }
     memmove(pieces->at + i + parts, pieces->at + i + 1, (pieces->count - i - 1) * sizeof *pieces->at);
     pieces->count = pieces->count - 1 + parts;
     if (before.count > 0)
@@ -65,7 +71,7 @@ static bool follow_piece(struct pieces *pieces, size_t i, const struct splice *s
     if (splice->at >= end)
         return false;
     if (splice->is_marked && splice->gone == 0 && splice->at >= piece.stood)
-        pieces->view->marks[piece.shown + (splice->at - piece.stood)] |= MARK_GONE_BEFORE;
+        pieces->marks[piece.shown + (splice->at - piece.stood)] |= MARK_GONE_BEFORE;
     if (splice->at + splice->gone <= piece.stood) {
         pieces->at[i].stood = piece.stood - splice->gone + splice->came;
         return true;
@@ -73,7 +79,7 @@ static bool follow_piece(struct pieces *pieces, size_t i, const struct splice *s
     size_t first = splice->at > piece.stood ? splice->at : piece.stood;
     size_t last = splice->at + splice->gone < end ? splice->at + splice->gone : end;
     if (splice->is_marked && first < last)
-        memset(pieces->view->marks + piece.shown + (first - piece.stood), MARK_CAME, last - first);
+        memset(pieces->marks + piece.shown + (first - piece.stood), MARK_CAME, last - first);
     cut_piece(pieces, i, first, last, splice);
     return true;
 }
@@ -104,16 +110,49 @@ static void count_change(struct view *view, const struct splice *splice)
     view->gone += splice->came;
 }
 
+/* Notes what is gone of the text between two pieces, or before the first one where the text begins. */
+static void note_old(const struct pieces *pieces)
+{
+    struct view *view = pieces->view;
+    size_t before = 0, stood = 0;
+    for (size_t i = 0; i < pieces->count && view->old_count < MOST_OLD; i++) {
+        struct piece piece = pieces->at[i];
+        if ((i > 0 || view->from == 0) && piece.stood > stood)
+            view->old[view->old_count++] = (struct old){.before = before - pieces->first, .stood = stood, .count = piece.stood - stood};
+        before = piece.shown + piece.count;
+        stood = piece.stood + piece.count;
+    }
+}
+
+/* All is one piece, with the byte before the window and the end of the text, where that is in the window. */
+static void begin_pieces(struct pieces *pieces, struct view *view)
+{
+    size_t first = view->from > 0;
+    pieces->view = view;
+    pieces->first = first;
+    pieces->is_vague = false;
+    pieces->count = 1;
+    pieces->at[0] = (struct piece){0, first + view->count + (view->from + view->count == view->length), view->from - first};
+    memset(pieces->marks, 0, first + view->count + 1);
+    memset(view->marks, 0, view->count + 1);
+}
+
+/* Gives the view what is marked. */
+static void end_pieces(struct pieces *pieces)
+{
+    memcpy(pieces->view->marks, pieces->marks + pieces->first, pieces->view->count + 1);
+    if (!pieces->is_vague)
+        note_old(pieces);
+}
+
 struct same mark_changes(const struct teco *t, struct view *view)
 {
     static struct pieces pieces;
     struct splice splice;
     size_t strings, changes, length = view->length;
     struct same same = {length, length};
-    memset(view->marks, 0, view->count + 1);
-    view->changes = view->came = view->gone = 0;
-    pieces = (struct pieces){.view = view, .count = 1};
-    pieces.at[0] = (struct piece){0, view->count + (view->from + view->count == view->length), view->from};
+    view->changes = view->came = view->gone = view->old_count = 0;
+    begin_pieces(&pieces, view);
     if (teco_cursor(t, &strings) != 0 || strings == 0 || teco_changes(t, strings - 1, &changes) != 0)
         return same;
     if (changes > MOST_CHANGES)
@@ -124,9 +163,11 @@ struct same mark_changes(const struct teco *t, struct view *view)
         length = narrow(&same, &splice, length);
         if (splice.is_marked)
             count_change(view, &splice);
+        pieces.is_vague |= !splice.is_marked;
         for (size_t i = pieces.count; i-- > 0 && follow_piece(&pieces, i, &splice);)
             continue;
     }
+    end_pieces(&pieces);
     return same;
 }
 

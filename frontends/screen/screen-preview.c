@@ -33,6 +33,7 @@ static void copy_view(struct view *to, const struct view *from)
     memcpy(to, from, offsetof(struct view, bytes));
     memcpy(to->bytes, from->bytes, from->count);
     memcpy(to->marks, from->marks, from->count + 1);
+    memcpy(to->old, from->old, from->old_count * sizeof *from->old);
 }
 
 bool preview_open(struct preview *preview, struct work *work)

@@ -117,21 +117,27 @@ static void draw_running(struct screen *screen)
     }
 }
 
-/* Runs the first string that is typed, whose pair of ESC is whole, and keeps it. What follows stays in the line, but where a name is wanted. */
-enum fate screen_run(struct screen *screen)
+/* Runs a string of n bytes, with the first ESC of its pair, and keeps it. */
+static void run(struct screen *screen, const uint8_t *text, size_t n)
 {
-    struct bytes rest = {0};
-    if (!line_split(&screen->line, &rest))
-        return NO_MEMORY;
-    draw_running(screen);
     begin_change(screen);
-    struct told told = work_do(&screen->work, screen->line.text.at, screen->line.text.count - 1);
+    struct told told = work_do(&screen->work, text, n);
     if (told.at == TECO_NOWHERE && told.steps == 0)
         (void)work_steps(&screen->work, &told.steps);
     screen->still.told = told;
     screen->still.tail = told.made < TAIL ? told.made : TAIL;
     memcpy(screen->still.typed, screen->work.room + told.made - screen->still.tail, screen->still.tail);
     note_printed(screen->work.room, told.made);
+}
+
+/* Runs the first string that is typed, whose pair of ESC is whole. What follows stays in the line, but where a name is wanted. */
+enum fate screen_run(struct screen *screen)
+{
+    struct bytes rest = {0};
+    if (!line_split(&screen->line, &rest))
+        return NO_MEMORY;
+    draw_running(screen);
+    run(screen, screen->line.text.at, screen->line.text.count - 1);
     line_next(&screen->line, &rest);
     if (teco_done(&screen->work.session) != 1) {
         end_change(screen);
@@ -140,6 +146,28 @@ enum fate screen_run(struct screen *screen)
     }
     line_drop(&screen->line);
     return conclude_writing(screen, work_write(&screen->work, screen->message, sizeof screen->message));
+}
+
+enum fate screen_sources(struct screen *screen)
+{
+    const struct bytes *strings = &screen->work.options->strings;
+    const uint8_t *text;
+    char said[sizeof screen->message] = "";
+    size_t at = 0, n, number = 0;
+    enum fate fate = GOES_ON;
+    while (fate == GOES_ON && !screen->is_naming && !screen->has_warned && !screen->still.told.is_broken_off
+        && (text = sources_next(strings, &at, &n)) != NULL) {
+        run(screen, text, n);
+        number++;
+        if (screen->still.told.code != 0 && said[0] == '\0')
+            (void)snprintf(said, sizeof said, "string %zu of -f: ?%s: %s", number, code_letters(screen->still.told.code),
+                told_sentence(&screen->still.told));
+        if (teco_done(&screen->work.session) == 1)
+            fate = conclude_writing(screen, work_write(&screen->work, screen->message, sizeof screen->message));
+    }
+    if (screen->message[0] == '\0' && (said[0] != '\0' || sources_tell(strings, at, said, sizeof said)))
+        say(screen, said);
+    return fate;
 }
 
 enum fate screen_name(struct screen *screen)

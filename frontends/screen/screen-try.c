@@ -83,10 +83,20 @@ static void begin_view(const struct request *request)
 }
 
 /* Takes the string back, if it was begun. */
-static void take_back(struct work *work)
+static bool take_back(struct work *work)
 {
-    if (view.told.code != TECO_NOT_BEGUN && view.told.code != TECO_END)
-        (void)teco_undo(&work->session);
+    return view.told.code != TECO_NOT_BEGUN && view.told.code != TECO_END && teco_undo(&work->session) == 0;
+}
+
+/* Reads the text that the string took out of the window, for which it is taken back, if there is any. Whether it is. */
+static bool read_old(struct work *work)
+{
+    bool is_back = view.old_count > 0 && take_back(work);
+    if (is_back)
+        old_read(&work->session, &view);
+    else
+        view.old_count = 0;
+    return is_back;
 }
 
 /* Readies the buffer of the copy for an insertion where the string ended, if no request waits. The first insertion at a place moves up to all
@@ -116,13 +126,16 @@ static void try_string(struct work *work, const struct request *request, const u
         begin_view(request);
         run_open(work, text, request->n, most);
         view.goes_on = view.told.code == TECO_LIM && most < work->options->limit;
+        bool is_back = false;
         if (!view.goes_on || since(&begun) > SOON) {
             look(&work->session, &view, &request->window);
             if (search.n > 0)
                 mark_hits(&view, &request->window, search.text, search.n, teco_either_case(&work->session) == 1);
+            is_back = read_old(work);
             preview_tell(&view);
         }
-        take_back(work);
+        if (!is_back)
+            (void)take_back(work);
         limit *= GROWS;
     } while (view.goes_on);
     ready_place(work);

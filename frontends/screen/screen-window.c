@@ -107,19 +107,41 @@ static void draw_character(const struct frame *frame, const struct walk *walk, c
             attributes_of(view->marks[at], is_pointer), pair_of(view->marks[at], glyph));
 }
 
+/* Goes to the row that has room for a glyph, and marks the one before it. */
+static void go_to(const struct frame *frame, struct walk *walk, const struct glyph *glyph)
+{
+    size_t row = walk->row;
+    walk_to(walk, glyph);
+    if (walk->row > row && !glyph->is_line_end)
+        draw_wrap(frame, row);
+}
+
+/* Draws the texts from `next` on that are gone before a byte of the window. */
+static void draw_old(const struct frame *frame, struct walk *walk, const struct view *view, size_t at, size_t *next)
+{
+    for (; *next < view->old_count && view->old[*next].before <= at; (*next)++) {
+        for (size_t i = 0; old_has_more(&view->old[*next], i) && walk->row < frame->end;) {
+            struct glyph glyph = old_glyph(&view->old[*next], i);
+            go_to(frame, walk, &glyph);
+            if (walk->row >= frame->first && walk->row < frame->end && walk->column + glyph.cells <= walk->columns)
+                put_glyph(frame->top + (int)(walk->row - frame->first), frame->left + (int)walk->column, &glyph, is_in_color() ? 0 : A_DIM, OLD);
+            walk_behind(walk, &glyph);
+            i += glyph.bytes;
+        }
+    }
+}
+
 void draw_window(const struct view *view, int top, int rows)
 {
     struct frame frame = frame_of(view, top, rows);
     struct walk walk = {.columns = (size_t)(frame.right - frame.left)};
-    size_t at = 0, line = view->top_line, pointer = view->pointer - view->from;
+    size_t at = 0, old = 0, line = view->top_line, pointer = view->pointer - view->from;
     drawn_from = view->from;
     draw_number(&frame, 0, line);
     while (walk.row < frame.end && at < view->count) {
+        draw_old(&frame, &walk, view, at, &old);
         struct glyph glyph = glyph_at(view->bytes, view->count, at, pointer, walk.column);
-        size_t row = walk.row;
-        walk_to(&walk, &glyph);
-        if (walk.row > row && !glyph.is_line_end)
-            draw_wrap(&frame, row);
+        go_to(&frame, &walk, &glyph);
         if (walk.row >= frame.end)
             break;
         draw_character(&frame, &walk, view, at, &glyph);
@@ -131,6 +153,8 @@ void draw_window(const struct view *view, int top, int rows)
             draw_number(&frame, walk.row, line);
     }
     drawn_to = view->from + at;
+    if (at == view->count)
+        draw_old(&frame, &walk, view, at, &old);
     if (walk.column >= walk.columns) {
         draw_wrap(&frame, walk.row);
         walk = (struct walk){.row = walk.row + 1, .columns = walk.columns};

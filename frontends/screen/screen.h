@@ -2,12 +2,13 @@
  * screen.h - the parts of teco-screen
  *
  * teco-screen.c has the program. screen-keys.c waits for keys and previews, and says what keys do; screen-strings.c does what a string
- * asks, undoes, steps and writes; screen-find.c finds the step that changed something. screen-preview.c has the copy of the process in
- * which a string is tried while it is typed, and screen-try.c what the copy does. screen-close.c closes a text that is open, and
- * screen-token.c reads tokens. screen-look.c looks at a session, screen-scroll.c tells where a window begins that is scrolled,
- * screen-marks.c tells which bytes a string put in, screen-hits.c what a search finds, screen-lines.c counts lines. screen-draw.c draws the
- * screen, screen-window.c the text, screen-pane.c the pane beside it, screen-rows.c the rows below them, screen-glyph.c tells how bytes are
- * shown, and screen-help.c what commands and keys do, of which screen-commands.h has a list. What teco-term has too comes from terminal.h.
+ * asks, undoes, steps and writes; screen-find.c finds the step that changed something; screen-short.c has keys that stand for strings.
+ * screen-preview.c has the copy of the process in which a string is tried while it is typed, and screen-try.c what the copy does.
+ * screen-close.c closes a text that is open, and screen-token.c reads tokens. screen-look.c looks at a session, screen-scroll.c tells
+ * where a window begins that is scrolled, screen-marks.c tells which bytes a string put in, screen-old.c shows those that it took out,
+ * screen-hits.c what a search finds, screen-lines.c counts lines. screen-draw.c draws the screen, screen-window.c the text, screen-pane.c
+ * the pane beside it, screen-rows.c the rows below them, screen-glyph.c tells how bytes are shown, and screen-help.c what commands and keys
+ * do, of which screen-commands.h has a list. What teco-term has too comes from terminal.h.
  */
 #ifndef SCREEN_H
 #define SCREEN_H
@@ -22,6 +23,14 @@ enum { LEAST_ROWS = 6, LEAST_COLUMNS = 20 };
 
 /* Marks of the bytes in a window: it came, some went before it, the search that is typed finds it. */
 enum { MARK_CAME = 1, MARK_GONE_BEFORE = 2, MARK_HIT = 4 };
+
+/* Text that a string took out: so many bytes that stood at a place of the text before it ran. The first of them are shown before this byte of the
+   window. */
+enum { MOST_OLD = 1024, SHOWN_OF_OLD = 40 };
+struct old {
+    size_t before, stood, count, shown;
+    uint8_t text[SHOWN_OF_OLD];
+};
 
 /* Registers, and how many bytes are looked at of the text of one. */
 enum { REGISTERS = 36, SHOWN_OF_REGISTER = 96 };
@@ -80,7 +89,9 @@ struct view {
     size_t from, count;      /* the bytes below are those from a place on */
     size_t tail;             /* the last bytes that were typed */
     uint8_t typed[TAIL];
+    size_t old_count;        /* so many texts are gone */
     uint8_t bytes[SHOWN], marks[SHOWN + 1];
+    struct old old[MOST_OLD];
 };
 
 /* TOKENS */
@@ -105,10 +116,11 @@ struct closing close_text(const uint8_t *text, size_t n, size_t open_at, uint8_t
 /* LOOKS */
 
 /* A character of a text: how many of its bytes, how it is shown, and on how many cells. */
+enum { GLYPH = 24 };
 struct glyph {
     size_t bytes, cells;
     bool is_control, is_line_end;
-    wchar_t shown[12];
+    wchar_t shown[GLYPH];
 };
 
 /* The character at a place, of which none is whole that the byte at `split` is inside of. */
@@ -122,6 +134,16 @@ struct walk {
 /* Goes to the row that has room for a glyph, and then behind it. */
 void walk_to(struct walk *walk, const struct glyph *glyph);
 void walk_behind(struct walk *walk, const struct glyph *glyph);
+
+/* Reads the texts that are gone, in the text before the string ran. */
+void old_read(const struct teco *t, struct view *view);
+
+/* The character at a place of one of them, struck through, or the sign that it is cut off there; and whether there is one. */
+struct glyph old_glyph(const struct old *old, size_t at);
+bool old_has_more(const struct old *old, size_t at);
+
+/* Goes over those from `next` on that are shown before a byte of the window, and puts `next` behind them. */
+void walk_over_old(struct walk *walk, const struct view *view, size_t at, size_t *next);
 
 /* The row of the window in which the pointer stands, or `rows` where it is below or above. */
 size_t row_of_pointer(const struct view *view, size_t rows, size_t columns);
@@ -233,10 +255,18 @@ const uint8_t *screen_line(const struct screen *screen, size_t *n);
 /* What keys do to the session; each ends the preview first. */
 void screen_look(struct screen *screen);
 enum fate screen_run(struct screen *screen);
+
+/* Runs the strings of the sources, until one is broken off, or an exit can't write; and says which of them failed first, or what was not run. */
+enum fate screen_sources(struct screen *screen);
 enum fate screen_name(struct screen *screen);
 void screen_undo(struct screen *screen, bool is_redo);
 void screen_step(struct screen *screen, uint64_t to);
 void screen_end_steps(struct screen *screen, bool stays);
+
+/* Whether a key stands for a string, with what is typed before it: RUN runs what is typed, or the last string once more; the others take a
+   number. And running that. */
+bool is_short(const struct screen *screen, enum sequence key);
+enum fate screen_run_short(struct screen *screen, enum sequence key);
 
 /* Whether a key names what the last string may have changed: a register by its letter or digit, or with ! the text. Among the steps it goes
    back to the one that comes before the last change of that; a capital letter goes on to the next one. */
@@ -265,6 +295,7 @@ void put_glyph(int row, int column, const struct glyph *glyph, unsigned long att
 int put_bytes(int row, int column, int end, const uint8_t *bytes, size_t n, unsigned long attributes, short pair);
 void draw_window(const struct view *view, int top, int rows);
 void turn_numbers(void); /* of lines: on, off */
+void turn_old(void);     /* text that is struck through: on, off */
 void window_edges(size_t *from, size_t *to); /* the place of the first byte of the text that was drawn last, and that behind the last one */
 /* The pane beside the text: the history, the registers, what was printed, or nothing, as a key turns it. It needs a wide terminal. */
 void draw_strip(const struct screen *screen, int top, int rows); /* the history */

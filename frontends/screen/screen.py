@@ -21,6 +21,9 @@ tecomono|the same without colors,
 """
 
 
+# What strikes the character before it through.
+STROKE = "\u0336"
+
 # The colors of bytes that came, of 256 and of 8.
 CAME = ("28", "5")
 
@@ -131,10 +134,12 @@ class FullScreen(Screen):
 
     def line(self, number):
         """A row: `[x]` is reversed, `{x}` bold and of the color of bytes that came, `(x)` underlined, as where some went, and `<x>` on another
-        ground, as what a search finds."""
+        ground, as what a search finds. `~x~` is struck through."""
         shown = ""
         for cell, marks in zip(self.cells[number], self.marks[number]):
             color = marks.lstrip("bdlru")
+            if STROKE in cell:
+                cell = f"~{cell.replace(STROKE, '')}~"
             if "r" in marks:
                 cell = f"[{cell}]"
             if "b" in marks and (color in CAME or self.colors == 0):
@@ -144,7 +149,7 @@ class FullScreen(Screen):
             if "l" in marks and cell:
                 cell = f"<{cell}>"
             shown += cell
-        return shown.replace("}{", "").replace("][", "").replace(")(", "").replace("><", "").rstrip()
+        return shown.replace("~~", "").replace("}{", "").replace("][", "").replace(")(", "").replace("><", "").rstrip()
 
     def plain(self, number):
         return "".join(self.cells[number]).rstrip()

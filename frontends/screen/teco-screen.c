@@ -1,7 +1,7 @@
 /*
  * teco-screen - TECO on a full screen, where a command string shows what it does while it is typed
  *
- *   teco-screen [-i | -o FILE] [--limit N] [--undo N] INPUT..
+ *   teco-screen [-f FILE].. [-i | -o FILE] [--page-lines N] [--limit N] [--undo N] INPUT..
  *
  * docs/TERMINAL.md tells of the rule and the keys. A string is tried in a copy of the process; nothing here changes the text of the session
  * but through teco_run, teco_undo, teco_redo and teco_rewind.
@@ -13,7 +13,7 @@
 
 static const struct program PROGRAM = {
     .name = "teco-screen",
-    .usage = "usage: teco-screen [-i | -o FILE] [--limit N] [--undo N] INPUT..\n",
+    .usage = "usage: teco-screen [-f FILE].. [-i | -o FILE] [--page-lines N] [--limit N] [--undo N] INPUT..\n",
     /* The completions of the shells are made of these lines, by tools/completions. */
     .help = "TECO on a full screen: a command string shows what it does while it is typed\n"
             "\n"
@@ -23,16 +23,40 @@ static const struct program PROGRAM = {
             "  <INPUT>...  The files to edit, one after another; each stays as it is, unless it is the output too\n"
             "\n"
             "Options:\n"
-            "  -o, --output <FILE>  Where the output goes after an exit; INPUT.out without it\n"
-            "  -i, --in-place       The output goes over each INPUT\n"
-            "      --limit <N>      The most steps that each command string may take, at most 1000000000000; 1000000 without it\n"
-            "      --undo <N>       The most command strings kept to be undone, at most 100000; all without it\n"
-            "  -h, --help           Print help\n"
-            "  -V, --version        Print version\n"
+            "  -f, --file <FILE>     The first commands are those of the source that FILE has; may be repeated\n"
+            "  -o, --output <FILE>   Where the output goes after an exit; INPUT.out without it\n"
+            "  -i, --in-place        The output goes over each INPUT\n"
+            "      --page-lines <N>  The most lines of a page, at most 1000000000; without it form feeds end pages\n"
+            "      --limit <N>       The most steps that each command string may take, at most 1000000000000; 1000000 without it\n"
+            "      --undo <N>        The most command strings kept to be undone, at most 100000; all without it\n"
+            "  -h, --help            Print help\n"
+            "  -V, --version         Print version\n"
             "\n"
             "ESC ESC keeps a string, EX writes the output and ends the program, and Ctrl-D leaves with nothing written.\n"};
 
-/* The first page is read by a string, which can be undone; but not where a session that was left is gone on with. */
+/* Whether no string of the sources has read a page, or put anything into the buffer. */
+static bool is_unread(const struct screen *screen)
+{
+    size_t place = 0, length = 0;
+    const struct teco *t = &screen->work.session;
+    bool is_waiting = screen->is_naming || screen->has_warned;
+    return !is_waiting && screen->work.size > 0 && teco_place(t, &place) == 0 && place == 0 && teco_length(t, &length) == 0 && length == 0;
+}
+
+/* The strings of the sources come first. Where they have read no page, the first one is read by a string, which can be undone; but all this
+   not where a session that was left is gone on with. */
+static enum fate begin(struct screen *screen)
+{
+    if (screen->work.is_gone_on) {
+        (void)work_steps(&screen->work, &screen->still.told.steps);
+        return GOES_ON;
+    }
+    enum fate fate = screen_sources(screen);
+    if (fate == GOES_ON && is_unread(screen))
+        screen->still.told = work_do(&screen->work, (const uint8_t *)"Y", 1);
+    return fate;
+}
+
 static enum fate edit_on_screen(struct screen *screen)
 {
     enum fate fate = left_ask(&screen->work);
@@ -42,11 +66,10 @@ static enum fate edit_on_screen(struct screen *screen)
         return POOR_TERMINAL;
     draw_anew();
     screen->still.told.at = TECO_NOWHERE;
-    if (screen->work.is_gone_on)
-        (void)work_steps(&screen->work, &screen->still.told.steps);
-    else if (screen->work.size > 0)
-        screen->still.told = work_do(&screen->work, (const uint8_t *)"Y", 1);
-    if (screen->work.is_new)
+    fate = begin(screen);
+    if (fate != GOES_ON)
+        return fate;
+    if (screen->work.is_new && screen->message[0] == '\0')
         (void)snprintf(screen->message, sizeof screen->message, "a new file  (F1 for help)");
     screen_look(screen);
     return screen_converse(screen);

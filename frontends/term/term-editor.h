@@ -44,6 +44,9 @@ struct editor {
 /* Does what a string asks, which has the first ESC of its pair, and shows what it types and what there is to tell. */
 enum fate serve(struct editor *editor, const uint8_t *text, size_t n);
 
+/* Does what the strings of the sources ask, one after another, until one is broken off, or an exit can't write; and says what was not run. */
+enum fate serve_sources(struct editor *editor);
+
 /* Writes to the file whose name was typed. */
 enum fate name_output(struct editor *editor, const uint8_t *name, size_t n);
 

@@ -100,3 +100,25 @@ enum fate serve(struct editor *editor, const uint8_t *text, size_t n)
         fate = say_last_steps(editor);
     return fate == GOES_ON && teco_done(&editor->work.session) == 1 ? write_output(editor) : fate;
 }
+
+/* Does what a string of the sources asks, which is the last one then. */
+static enum fate serve_source(struct editor *editor, const uint8_t *text, size_t n)
+{
+    editor->last.count = 0;
+    return bytes_add(&editor->last, text, n) ? serve(editor, editor->last.at, n) : NO_MEMORY;
+}
+
+enum fate serve_sources(struct editor *editor)
+{
+    const struct bytes *strings = &editor->work.options->strings;
+    const uint8_t *text;
+    char left[WHY];
+    size_t at = 0, n;
+    enum fate fate = GOES_ON;
+    while (fate == GOES_ON && !editor->is_naming && !editor->has_warned && !editor->told.is_broken_off
+        && (text = sources_next(strings, &at, &n)) != NULL)
+        fate = serve_source(editor, text, n);
+    if (fate == GOES_ON && sources_tell(strings, at, left, sizeof left))
+        fate = shown(tty_say(left) && tty_say("\r\n"));
+    return fate;
+}

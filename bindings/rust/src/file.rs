@@ -34,6 +34,8 @@ pub struct Resumed {
     pub good: usize,
     /// So many requests were done again.
     pub records: usize,
+    /// A page of its input ends after so many line ends too, or with 0 after any number of them.
+    pub page_lines: usize,
     pub ending: Ending,
 }
 
@@ -80,8 +82,13 @@ impl Entry<'_> {
 impl Lines {
     /// The head of the file of a session over this input and of this depth, as [`Session::open`] takes them; none if memory is refused.
     pub fn begin(input: &[u8], depth: usize) -> Option<(Lines, Vec<u8>)> {
+        Lines::begin_pages(input, 0, depth)
+    }
+
+    /// The same of a session with pages, as [`Session::open_pages`] takes them.
+    pub fn begin_pages(input: &[u8], page_lines: usize, depth: usize) -> Option<(Lines, Vec<u8>)> {
         let mut lines = Lines { check: [0; 16] };
-        let head = lines.put(0, 0, |line| unsafe { raw::teco_head(input.as_ptr(), input.len(), depth, line) })?;
+        let head = lines.put(0, 0, |line| unsafe { raw::teco_head(input.as_ptr(), input.len(), page_lines, depth, line) })?;
         Some((lines, head))
     }
 
@@ -131,7 +138,7 @@ impl From<raw::Resumed> for Resumed {
             2 => Ending::Changed,
             _ => Ending::Unknown,
         };
-        Resumed { lines: Lines { check: told.check }, good: told.good, records: told.records, ending }
+        Resumed { lines: Lines { check: told.check }, good: told.good, records: told.records, page_lines: told.lines, ending }
     }
 }
 

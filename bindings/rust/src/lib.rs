@@ -6,11 +6,13 @@
 mod change;
 mod file;
 mod raw;
+mod source;
 mod stopper;
 mod token;
 
 pub use change::{Change, Kind};
 pub use file::{Ending, Entry, Lines, Resumed, Unread};
+pub use source::{source, Unreadable};
 use std::fmt;
 use std::ptr;
 pub use stopper::Stopper;
@@ -87,8 +89,13 @@ const NOWHERE: usize = usize::MAX;
 impl Session {
     /// A session over a copy of the input, that keeps the last `depth` strings, or all of them where that is 0.
     pub fn open(input: &[u8], depth: usize) -> Result<Session, OpenError> {
+        Session::open_pages(input, 0, depth)
+    }
+
+    /// The same, but a page of the input ends at a form feed, and after so many line ends too; with 0 after any number of them.
+    pub fn open_pages(input: &[u8], lines: usize, depth: usize) -> Result<Session, OpenError> {
         let mut handle = raw::Handle { at: ptr::null_mut() };
-        match unsafe { raw::teco_open(&mut handle, input.as_ptr(), input.len(), depth) } {
+        match unsafe { raw::teco_open(&mut handle, input.as_ptr(), input.len(), lines, depth) } {
             0 => Ok(Session { handle }),
             LARGE => Err(OpenError::TooLarge),
             DEEP => Err(OpenError::TooDeep),

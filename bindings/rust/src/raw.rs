@@ -47,6 +47,14 @@ pub struct Token {
 
 #[repr(C)]
 #[derive(Default)]
+pub struct Source {
+    pub made: usize,
+    pub line: u64,
+    pub column: u64,
+}
+
+#[repr(C)]
+#[derive(Default)]
 pub struct Change {
     pub kind: u8,
     pub name: u8,
@@ -77,11 +85,12 @@ pub struct Resumed {
     pub check: [u8; 16],
     pub good: usize,
     pub records: usize,
+    pub lines: usize,
     pub ending: u8,
 }
 
 extern "C" {
-    pub fn teco_open(t: *mut Handle, input: *const u8, n: usize, depth: usize) -> u8;
+    pub fn teco_open(t: *mut Handle, input: *const u8, n: usize, lines: usize, depth: usize) -> u8;
     pub fn teco_close(t: *mut Handle);
     pub fn teco_run(t: *mut Handle, text: *const u8, n: usize, run: *mut Run) -> u8;
     pub fn teco_stopper_open(here: *mut Stopper, there: *mut Stopper) -> u8;
@@ -91,10 +100,11 @@ extern "C" {
     pub fn teco_redo(t: *mut Handle) -> u8;
     pub fn teco_rewind(t: *mut Handle, n: u64) -> u8;
     pub fn teco_forget(t: *mut Handle) -> u8;
-    pub fn teco_head(input: *const u8, n: usize, depth: usize, line: *mut Line) -> u8;
+    pub fn teco_head(input: *const u8, n: usize, lines: usize, depth: usize, line: *mut Line) -> u8;
     pub fn teco_record(text: *const u8, n: usize, line: *mut Line) -> u8;
     pub fn teco_resume(t: *mut Handle, bytes: *const u8, n: usize, resumed: *mut Resumed) -> u8;
     pub fn teco_token(text: *const u8, n: usize, at: usize, token: *mut Token) -> u8;
+    pub fn teco_source(source: *const u8, n: usize, room: *mut u8, size: usize, told: *mut Source) -> u8;
     pub fn teco_strings(t: *const Handle, count: *mut usize) -> u8;
     pub fn teco_cursor(t: *const Handle, count: *mut usize) -> u8;
     pub fn teco_steps(t: *const Handle, i: usize, steps: *mut u64) -> u8;

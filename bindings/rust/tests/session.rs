@@ -1,7 +1,7 @@
 use std::thread;
 use std::time::Duration;
-use teco::{token, Call, Change, Ending, Entry, Fault, Frames, Kind, Lines, Nothing, OpenError, Place, Session, Stop, Stopper, Token};
-use teco::{TokenKind, Unread};
+use teco::{source, token, Call, Change, Ending, Entry, Fault, Frames, Kind, Lines, Nothing, OpenError, Place, Session, Stop, Stopper, Token};
+use teco::{TokenKind, Unread, Unreadable};
 
 const LIMIT: u64 = 1_000_000;
 
@@ -117,6 +117,16 @@ fn changes_tell_what_is_drawn_anew() {
     assert_eq!(session.undo(), Ok(()));
     assert_eq!(session.changes(0), Some(vec![splice(0, 0, 2, 0), number, splice(2, 0, 3, 3)]));
     assert_eq!(session.changes(1), None);
+}
+
+#[test]
+fn a_page_ends_after_its_lines() {
+    let mut session = Session::open_pages(b"a\nb\nc", 1, 0).unwrap();
+    assert_eq!(session.run(b"Y", LIMIT, 0).stop, None);
+    assert_eq!((session.text(), session.ended_by_form_feed()), (b"a\n".to_vec(), false));
+    let (_, head) = Lines::begin_pages(b"a\nb\nc", 1, 0).unwrap();
+    let (mut again, resumed) = Session::resume(&head).unwrap();
+    assert_eq!((again.run(b"YP", LIMIT, 0).stop, again.text(), resumed.page_lines), (None, b"b\n".to_vec(), 1));
 }
 
 #[test]
@@ -240,6 +250,13 @@ fn what_stands_in_a_text_is_told() {
         let read = token(&text, 0).unwrap().unwrap();
         assert_eq!((read.to, read.kind as usize), (text.len(), i));
     }
+}
+
+#[test]
+fn a_source_stands_for_its_bytes() {
+    assert_eq!(source(b"  Iab$ !! a text\n  T\n"), Ok(b"Iab\x1bT".to_vec()));
+    assert_eq!(source(b""), Ok(vec![]));
+    assert_eq!(source(b"J\n ^5"), Err(Unreadable::Caret { line: 2, column: 2 }));
 }
 
 #[test]

@@ -2,7 +2,7 @@
 ghost use Rattle.std.specs.Prelude.{◌≡◌, ◌≢◌, ◌⊎◌, ◌↔◌, ◌<◌, ◌≤◌, length, IfOk, None, Some};
 ghost use Rattle.teco_core.specs.Code.{number_of};
 ghost use Rattle.teco_core.specs.declared.code.Code.TheVariants.{Mem};
-ghost use Rattle.teco_session.specs.Kept.{new_session};
+ghost use Rattle.teco_session.specs.Kept.{new_paged_session};
 ghost use Rattle.teco_ffi.specs.Calls.{StaysClosed, Undoes, Redoes, Rewinds, Forgets, depth_asked};
 ghost use Rattle.teco_ffi.specs.Handle.{SessionGoes};
 ghost use Rattle.teco_ffi.specs.Runs.{KeepsGiven, TellsNothing, TellsRun};
@@ -14,13 +14,19 @@ use teco_core::{Code, DEPTH_LIMIT, FILE_LIMIT};
 use teco_ffi::calls::{session_over, undo};
 use teco_ffi::runs::Run;
 
-/// Opens a handle: a session over a copy of the input, that keeps the last `depth` strings, or all of them where that is 0. What was
-/// open in it is freed then.
+/// Opens a handle: a session over a copy of the input, whose pages end after so many lines too, or after any number where that is 0. It
+/// keeps the last `depth` strings, or all of them where that is 0. What was open in it is freed then.
 ///
 /// 0, or the number of MEM where memory is refused, or one that says what is out of its bounds: then nothing changes.
 #[unsafe(no_mangle)]
-pub extern "C" fn teco_open(alloc: Global, t: &mut Teco, input: &[u8], depth: usize) -> u8
-    ensures opened { result ≡ 0 → t.new.value ≡ Some (new_session (depth_asked depth) input.now) }
+pub extern "C" fn teco_open(
+    alloc: Global,
+    t: &mut Teco,
+    input: &[u8],
+    lines: usize,
+    depth: usize,
+) -> u8
+    ensures opened { result ≡ 0 → t.new.value ≡ Some (new_paged_session lines (depth_asked depth) input.now) }
     ensures refused { result ≢ 0 → t.new.value ≡ t.old.value }
     ensures large { (result ≡ LARGE) ↔ (FILE_LIMIT < length input.now) }
     ensures deep { (result ≡ DEEP) ↔ ((length input.now ≤ FILE_LIMIT) × (DEPTH_LIMIT < depth)) }
@@ -32,7 +38,7 @@ pub extern "C" fn teco_open(alloc: Global, t: &mut Teco, input: &[u8], depth: us
     if depth > DEPTH_LIMIT {
         return DEEP;
     }
-    match session_over(alloc, input, depth) {
+    match session_over(alloc, input, lines, depth) {
         Err(_) => Code::Mem.number(),
         Ok(session) => {
             t.open(session);

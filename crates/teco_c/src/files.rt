@@ -14,18 +14,24 @@ use std::alloc::Global;
 use teco_ffi::lines::{Line, tell_head, tell_record};
 use teco_ffi::resuming::{Resumed, session_in};
 
-/// Puts the head of the file of a session that is opened over this input and with this depth, and its check.
+/// Puts the head of the file of a session that is opened over this input, with pages of so many lines and with this depth, and its check.
 ///
 /// 0, or the number of MEM where memory is refused. Where the room is too small, nothing is copied and the check stays.
 #[unsafe(no_mangle)]
-pub extern "C" fn teco_head(alloc: Global, input: &[u8], depth: usize, line: &mut Line) -> u8
-    ensures told { result ≡ 0 → IsLineTold (whole_head (beginning_asked depth input.now)) (first_check (beginning_asked depth input.now))
-        line.old line.new }
+pub extern "C" fn teco_head(
+    alloc: Global,
+    input: &[u8],
+    lines: usize,
+    depth: usize,
+    line: &mut Line,
+) -> u8
+    ensures told { let begun = beginning_asked lines depth input.now in
+        result ≡ 0 → IsLineTold (whole_head begun) (first_check begun) line.old line.new }
     ensures refused { result ≢ 0 → IsNoLineTold line.old line.new }
     ensures else_memory { (result ≡ 0) ⊎ (result ≡ number_of Mem) }
     ensures kept { KeepsLine line.old line.new }
 {
-    tell_head(alloc, input, depth, line)
+    tell_head(alloc, input, lines, depth, line)
 }
 
 /// Puts the line of what a request did behind the last check, which then is its own. The text is that of the string that was run.

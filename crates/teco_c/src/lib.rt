@@ -7,6 +7,7 @@ mod calls;
 mod changes;
 mod files;
 mod history;
+mod sources;
 mod state;
 mod stops;
 mod tokens;

@@ -6,3 +6,4 @@ mod OpensFlag
 mod Filling
 mod Dropping
 mod OpenCalls
+mod SourcePlaces

@@ -13,3 +13,4 @@ pub mod Frames
 pub mod Runs
 pub mod Lines
 pub mod Resuming
+pub mod Sources

@@ -16,9 +16,9 @@ event_named kind steps text =
     else (if kind == REWOUND then Some (cut steps)
     else (if kind == FORGOT then Some forgot else None))))
 
--- what a session over this input begins with, as `teco_open` opens it
-abbrev pub beginning_asked : ℕ → List ℕ → Beginning
-beginning_asked depth input = record { lines = 0; depth = depth_asked depth; input = input }
+-- what a session over this input begins with, as `teco_open` opens it: how many lines end a page, and its depth
+abbrev pub beginning_asked : ℕ → ℕ → List ℕ → Beginning
+beginning_asked lines depth input = record { lines = lines; depth = depth_asked depth; input = input }
 
 -- These bytes are told: how many they are; and if there is room for them they are copied, and the check is the one after them.
 pub record IsLineTold (bytes check : List ℕ) (old new : Line) : Type 0 where

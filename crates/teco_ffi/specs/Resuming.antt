@@ -23,8 +23,8 @@ ending_number Torn = TORN
 ending_number Changed = CHANGED
 ending_number Unknown = UNKNOWN
 
--- The bytes hold this start and these events, and the session has the history that they tell. What is told is where the next line goes, and
--- what stands there.
+-- The bytes hold this start and these events, and the session has the history that they tell. What is told is where the next line goes,
+-- what stands there, and how many lines end a page.
 pub record IsResumed (bytes : List ℕ) (told : Resumed) (history : History) : Type 0 where
   pub beginning : Beginning
   pub events : List Event
@@ -33,6 +33,7 @@ pub record IsResumed (bytes : List ℕ) (told : Resumed) (history : History) : T
   pub check : told.check ≡ check_after (first_check beginning) events
   pub good : told.good ≡ length (file_of beginning events)
   pub records : told.records ≡ length events
+  pub lines : told.lines ≡ beginning.lines
   pub ending : Ending
   pub ending_is : told.ending ≡ ending_number ending
   pub ends : EndsAs told.check (drop told.good bytes) ending

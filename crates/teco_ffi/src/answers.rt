@@ -31,11 +31,15 @@ pub const TORN_HEAD: u8 = 248;
 /// They begin with no head of a session's file, of this version and as it was written.
 pub const CHANGED_HEAD: u8 = 247;
 
+/// A caret of a source stands before what it cannot stand before.
+pub const CARET: u8 = 246;
+
 /// The place of a string that did not stop before its end, or of which no place is told.
 pub const NOWHERE: usize = usize::MAX;
 
 /// The answers as numbers. The call does nothing.
 pub fn answer_values()
+    ensures caret { CARET ≡ 246 }
     ensures changed_head { CHANGED_HEAD ≡ 247 }
     ensures torn_head { TORN_HEAD ≡ 248 }
     ensures otherwise { OTHERWISE ≡ 249 }

@@ -17,6 +17,7 @@ pub mod places;
 pub mod resuming;
 pub mod room;
 pub mod runs;
+pub mod sources;
 pub mod stopper;
 pub mod token_kinds;
 pub mod tokens;

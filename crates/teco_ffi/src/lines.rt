@@ -121,18 +121,18 @@ pub fn tell_record(alloc: Global, text: &[u8], line: &mut Line) -> u8
     0
 }
 
-/// Tells the head of the file of a session over this input, of this depth, as `teco_head` of the library for C does. 0, or the number of
-/// MEM.
-pub fn tell_head(alloc: Global, input: &[u8], depth: usize, line: &mut Line) -> u8
-    ensures told { result ≡ 0 → IsLineTold (whole_head (beginning_asked depth input.now)) (first_check (beginning_asked depth input.now))
-        line.old line.new }
+/// Tells the head of the file of a session over this input, with pages of so many lines and of this depth, as `teco_head` of the library
+/// for C does. 0, or the number of MEM.
+pub fn tell_head(alloc: Global, input: &[u8], lines: usize, depth: usize, line: &mut Line) -> u8
+    ensures told { let begun = beginning_asked lines depth input.now in
+        result ≡ 0 → IsLineTold (whole_head begun) (first_check begun) line.old line.new }
     ensures refused { result ≢ 0 → IsNoLineTold line.old line.new }
     ensures else_memory { (result ≡ 0) ⊎ (result ≡ number_of Mem) }
     ensures kept { KeepsLine line.old line.new }
 {
     line.made = 0;
     let start = Start {
-        lines: 0,
+        lines,
         depth: if depth == 0 { None } else { Some(depth) },
         input,
     };

@@ -25,6 +25,8 @@ pub struct Resumed {
     pub good: usize,
     /// How many records were done again.
     pub records: usize,
+    /// How many line ends end a page of its input; 0 is any number.
+    pub lines: usize,
     /// Why the reading ended there: the end, a torn line, a changed line, or one of no record.
     pub ending: u8,
 }
@@ -128,6 +130,7 @@ pub fn session_in(alloc: Global, bytes: &[u8], told: &mut Resumed) -> Result<Box
     told.check = check;
     told.good = file.journal.good;
     told.records = file.journal.records.len();
+    told.lines = file.start.lines;
     told.ending = number_of_ending(file.journal.ending);
     Ok(session)
 }
