@@ -9,6 +9,7 @@ pub mod Sizes
 pub mod Texts
 pub mod Findings
 pub mod Staying
+pub mod Histories
 pub mod Changes
 pub mod Returning
 pub mod WalkEnds

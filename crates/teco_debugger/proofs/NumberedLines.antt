@@ -1,5 +1,5 @@
 -- The lines of a text with their numbers, one after the other.
-use Rattle.std.proofs.Common.{◌≡◌, ℕ, suc, ◌+◌, ◌-◌, ◌++◌, List, [], length, min, ap, sym, ◌∙◌, arith, append_assoc, append-nil, add-one, nat_lt}
+use Rattle.std.proofs.Common.{◌≡◌, ℕ, suc, ◌+◌, ◌-◌, ◌++◌, List, [], length, min, ap, sym, ◌∙◌, append_assoc, append-nil, add-one, nat_lt}
 use Rattle.std.specs.Prelude.{Bool, false, if◌then◌else◌}
 use Rattle.teco_debugger.specs.Around.{after_line, after_lines, around_place, first_numbered, line_number, lines_around, marked_numbered, numbered_lines}
 use Rattle.teco_debugger.proofs.Texts.{three_from_right}

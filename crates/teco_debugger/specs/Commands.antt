@@ -3,19 +3,23 @@ use Rattle.std.specs.Prelude.{◌≡◌, ◌⊎◌, ℕ, suc, ◌+◌, ◌-◌, 
 use Rattle.std.specs.List.{prefix_len, remove, suffix_len}
 use Rattle.std.specs.Fmt.{decimal}
 use Rattle.std.specs.String.{string_bytes}
+use Rattle.std.specs.declared.alloc.Global.{Global}
+use Rattle.std.specs.declared.vec.Vec.{Vec}
 use Prim.Native.Char.{code}
 use lib.Pointwise.{pointwise}
 use Rattle.teco_core.specs.Ascii.{upper}
 use Rattle.teco_core.specs.Register.{register_of}
 use Rattle.teco_messages.specs.Spelling.{spelled}
+use Rattle.teco_source.specs.Source.{commands_of}
 use Rattle.teco_debugger.specs.Around.{around_at}
 use Rattle.teco_debugger.specs.Breaks.{stops_shown}
 use Rattle.teco_debugger.specs.Number.{number_in}
 use Rattle.teco_debugger.specs.Finding.{last_change}
 use Rattle.teco_debugger.specs.Walk.{KeptWalk, meant, state_there}
 use Rattle.teco_debugger.specs.Help.{help_shown}
+use Rattle.teco_debugger.specs.History.{history_of_register}
 use Rattle.teco_debugger.specs.Listing.{lines_there_shown, registers_shown, state_shown, whole_register}
-use Rattle.teco_debugger.specs.Moving.{Arrives, Goal, IsFound, MovesTo, SameRun, calls_of, goal, line_stop}
+use Rattle.teco_debugger.specs.Moving.{Arrives, Goal, IsFound, MovesTo, SameRun, calls_of, goal, line_break, line_stop}
 use Rattle.teco_debugger.specs.Showing.{step_at, where_at}
 use Rattle.teco_debugger.specs.Sources.{IsShownAt}
 use Rattle.teco_debugger.specs.Watching.{IsNearestOther}
@@ -23,14 +27,15 @@ use Rattle.teco_debugger.specs.declared.sources.SourceText.{SourceText}
 use Rattle.teco_debugger.specs.declared.command.DebuggerCommand.{DebuggerCommand}
 use Rattle.teco_debugger.specs.declared.command.DebuggerCommand.TheVariants as command
 use Rattle.teco_debugger.specs.declared.command.CommandFault.{CommandFault}
-use Rattle.teco_debugger.specs.declared.command.CommandFault.TheVariants.{NoCommand, NoNumber, NoRegister, NoPlace, NoSource, NoWatch, TooMuch, NoneBefore}
+use Rattle.teco_debugger.specs.declared.command.CommandFault.TheVariants.{NoCommand, NoNumber, NoRegister, NoPlace, NoSource, NoString, NoWatch, TooMuch, NoneBefore}
 use Rattle.teco_debugger.specs.declared.part.Part.{Part}
 use Rattle.teco_debugger.specs.declared.part.Part.TheVariants as part
 use Rattle.teco_debugger.specs.declared.stops.Found.{Found}
 use Rattle.teco_debugger.specs.declared.stops.Found.TheVariants.{At, Nowhere, TooFar}
+use Rattle.teco_debugger.specs.declared.stops.Break.{Break}
 use Rattle.teco_debugger.specs.declared.stops.Stop.{Stop}
 use Rattle.teco_debugger.specs.declared.verb.Takes.{Takes}
-use Rattle.teco_debugger.specs.declared.verb.Takes.TheVariants.{Nothing, Number, NumberOr, Register, Part as ThePart, Stop as TheStop, Watch as TheWatch}
+use Rattle.teco_debugger.specs.declared.verb.Takes.TheVariants.{Nothing, Number, NumberOr, Register, History, Part as ThePart, Stop as TheStop, Watch as TheWatch}
 use Rattle.teco_debugger.specs.declared.verb.Counted.{Counted}
 use Rattle.teco_debugger.specs.declared.verb.Counted.TheVariants as counted
 use Rattle.teco_debugger.specs.declared.verb.Plain.{Plain}
@@ -42,8 +47,8 @@ use Rattle.teco_debugger.specs.declared.watching.Watch.TheVariants as watch
 use Rattle.teco_debugger.specs.declared.watching.Way.{Way}
 use Rattle.teco_debugger.specs.declared.watching.Way.TheVariants.{On, Back}
 use Rattle.teco_debugger.specs.declared.debugger.Debugger.{Debugger}
-use Rattle.teco_debugger.specs.declared.debugger.View.{View}
-use Rattle.teco_debugger.specs.declared.debugger.View.TheVariants.{Step, Where, Around, Typed}
+use Rattle.teco_debugger.specs.declared.view.View.{View}
+use Rattle.teco_debugger.specs.declared.view.View.TheVariants.{Step, Where, Around, Typed}
 use Prim.Native.Char.{code}
 
 -- a command: its word, the letter that stands for it, and what it takes
@@ -60,7 +65,7 @@ verb_by row = named row.word.now row.letter.now row.takes
 
 -- the commands; a letter is the first of its word that no word above it has taken. All of those of `watch` are, so it has the d of
 -- `differs`. `list` leaves the l to `until`, and has the v of `view`. `delete` has the x that crosses out, and
--- `finish` the o of `out`.
+-- `finish` the o of `out`; `history` has the p of `past`.
 abbrev pub verbs : List Verb
 verbs = named (codes "next") (codes "n") (NumberOr counted.Next 1)
     ∷ named (codes "back") (codes "b") (NumberOr counted.Back 1)
@@ -74,6 +79,7 @@ verbs = named (codes "next") (codes "n") (NumberOr counted.Next 1)
     ∷ named (codes "registers") (codes "i") (Nothing plain.Registers)
     ∷ named (codes "state") (codes "a") (Nothing plain.State)
     ∷ named (codes "find") (codes "f") ThePart
+    ∷ named (codes "history") (codes "p") History
     ∷ named (codes "break") (codes "k") TheStop
     ∷ named (codes "delete") (codes "x") (Number counted.Delete)
     ∷ named (codes "continue") (codes "c") (Nothing plain.Continue)
@@ -180,10 +186,32 @@ stop_in sources bytes = stop_by sources bytes (number_in (drop (last_piece bytes
 abbrev pub break_at : Stop → DebuggerCommand
 break_at stop = command.Break stop
 
+abbrev pub break_where : Stop → DebuggerCommand
+break_where stop = command.BreakIf stop
+
+-- The word `if` comes after the first word, and then a string.
+abbrev pub is_tested : List ℕ → Bool
+is_tested bytes = pointwise nat_eq (word_in (after_word bytes)) (codes "if")
+
+abbrev pub behind_if : List ℕ → List ℕ
+behind_if bytes = after_word (after_word bytes)
+
+-- the string behind `if` in a line of `break`
+abbrev pub test_in : List ℕ → List ℕ
+test_in line = behind_if (after_word (without_blanks_before (without_blanks_after line)))
+
+-- such a place in a word, and a string behind `if`
+abbrev pub break_if : List SourceText → List ℕ → Result DebuggerCommand CommandFault
+break_if sources bytes =
+    if length (behind_if bytes) == 0 then Err NoString else given break_where (stop_in sources (word_in bytes))
+
+abbrev pub break_in : List SourceText → List ℕ → Result DebuggerCommand CommandFault
+break_in sources bytes = if is_tested bytes then break_if sources bytes else given break_at (stop_in sources bytes)
+
 -- such a place to stop at, or the list of them
 abbrev pub stop_or_list : List SourceText → List ℕ → Result DebuggerCommand CommandFault
 stop_or_list sources [] = Ok (command.Plain plain.Breaks)
-stop_or_list sources (b ∷ bytes) = given break_at (stop_in sources (b ∷ bytes))
+stop_or_list sources (b ∷ bytes) = break_in sources (b ∷ bytes)
 
 -- the register of this name, to be watched
 abbrev pub watched_register : ℕ → Result Watch CommandFault
@@ -224,6 +252,7 @@ command_in sources (Nothing plain) bytes = alone (command.Plain plain) bytes
 command_in sources (Number counted) bytes = given (command.Counted counted) (number_in bytes)
 command_in sources (NumberOr counted otherwise) bytes = given (command.Counted counted) (number_or otherwise bytes)
 command_in sources Register bytes = given command.Register (register_in bytes)
+command_in sources History bytes = given command.History (register_in bytes)
 command_in sources ThePart bytes = given find (part_in bytes)
 command_in sources TheStop bytes = stop_or_list sources bytes
 command_in sources TheWatch bytes = watch_in bytes
@@ -254,10 +283,12 @@ asked debugger line = if is_empty_line line then or_none_before debugger.again e
 -- the command that an empty line after this one asks for: the same, if it moves or shows
 abbrev pub again_after : DebuggerCommand → Option DebuggerCommand
 again_after (command.Break stop) = None
+again_after (command.BreakIf stop) = None
 again_after (command.Plain plain) = Some (command.Plain plain)
 again_after (command.Counted counted.Delete n) = None
 again_after (command.Counted counted n) = Some (command.Counted counted n)
 again_after (command.Register q) = Some (command.Register q)
+again_after (command.History q) = Some (command.History q)
 again_after (command.Find part) = Some (command.Find part)
 again_after (command.Watch watched way) = Some (command.Watch watched way)
 
@@ -273,6 +304,7 @@ words_of NoNumber = codes "a number is wanted"
 words_of NoRegister = codes "a register is wanted, A to Z or 0 to 9"
 words_of NoPlace = codes "a place is wanted, as LINE, LINE:COLUMN or FILE:LINE"
 words_of NoSource = codes "no source has this name"
+words_of NoString = codes "a string is wanted after if"
 words_of NoWatch = codes "a register, . or Z is wanted, and then back or nothing"
 words_of TooMuch = codes "nothing is wanted after this command"
 words_of NoneBefore = codes "no command to do again"
@@ -335,12 +367,12 @@ GoesOnTo goal old new shown =
     (found : Found) × IsFound old.sources.items old.walk goal (old.walk.steps + 1) old.limit found × GoesByFound found old new shown
 
 -- The same, unless none is noted.
-abbrev pub GoesOnUnless : Bool → List Stop → Debugger → Debugger → List ℕ → Type 0
+abbrev pub GoesOnUnless : Bool → List Break → Debugger → Debugger → List ℕ → Type 0
 GoesOnUnless true stops old new shown = OnlyShows (answer_line (codes "no place to stop at is noted")) old new shown
 GoesOnUnless false stops old new shown = GoesOnTo (goal stops 0) old new shown
 
 -- It goes on to the next step at a place to stop at, if one is noted and such a step comes.
-abbrev pub GoesOnToStop : List Stop → Debugger → Debugger → List ℕ → Type 0
+abbrev pub GoesOnToStop : List Break → Debugger → Debugger → List ℕ → Type 0
 GoesOnToStop stops old new shown = GoesOnUnless (length stops == 0) stops old new shown
 
 -- So many calls are open where the walk stands.
@@ -357,7 +389,7 @@ Finishes old new shown =
     (calls : ℕ) × HasOpenCalls old.sources.items old.walk calls × FinishesUnless (calls == 0) calls old new shown
 
 -- These are the places to stop at, and nothing else changes. Nothing is shown.
-pub record NotesStops (stops : List Stop) (old new : Debugger) (shown : List ℕ) : Type 0 where
+pub record NotesStops (stops : List Break) (old new : Debugger) (shown : List ℕ) : Type 0 where
   pub stops_are : new.stops.items ≡ stops
   pub walk : new.walk ≡ old.walk
   pub limit : new.limit ≡ old.limit
@@ -366,8 +398,18 @@ pub record NotesStops (stops : List Stop) (old new : Debugger) (shown : List ℕ
   pub sources : new.sources ≡ old.sources
   pub nothing : shown ≡ []
 
+-- A place to stop at is noted behind the others, whatever the state there.
+abbrev pub NotesStop : Stop → Debugger → Debugger → List ℕ → Type 0
+NotesStop stop old new shown = NotesStops (old.stops.items ++ record { stop = stop; test = None } ∷ []) old new shown
+
+-- It is noted with the string that these commands are; or a caret in it stands before what it cannot stand before.
+abbrev pub NotesTest : Result (List ℕ) ℕ → Stop → Debugger → Debugger → List ℕ → Type 0
+NotesTest (Ok commands) stop old new shown = (test : Vec ℕ Global) × (test.items ≡ commands)
+    × NotesStops (old.stops.items ++ record { stop = stop; test = Some test } ∷ []) old new shown
+NotesTest (Err at) stop old new shown = OnlyShows (answer_line (codes "a caret before what it cannot stand before")) old new shown
+
 -- There are places of the numbers from 1 to as many as they are.
-abbrev pub is_number : ℕ → List Stop → Bool
+abbrev pub is_number : ℕ → List Break → Bool
 is_number n stops = nat_lt 0 n && nat_le n (length stops)
 
 abbrev pub DeletesIf : Bool → ℕ → Debugger → Debugger → List ℕ → Type 0
@@ -428,19 +470,21 @@ AnswersCounted counted.Around n old new shown = ShowsAround n old new shown
 AnswersCounted counted.Text n old new shown = OnlyShows (lines_there_shown (state_there old.walk) n) old new shown
 AnswersCounted counted.Undo n old new shown = TakesBack (moves_left n old.moves.items)
     (slice_get old.moves.items (moves_left n old.moves.items)) old new shown
-AnswersCounted counted.Until n old new shown = GoesOnTo (goal (line_stop n ∷ []) 0) old new shown
+AnswersCounted counted.Until n old new shown = GoesOnTo (goal (line_break n ∷ []) 0) old new shown
 AnswersCounted counted.Delete n old new shown = Deletes n old new shown
 
--- what a command does, and what is shown of it
-abbrev pub AnswersCommand : DebuggerCommand → Debugger → Debugger → List ℕ → Type 0
-AnswersCommand (command.Plain plain) old new shown = AnswersPlain plain old new shown
-AnswersCommand (command.Counted counted n) old new shown = AnswersCounted counted n old new shown
-AnswersCommand (command.Register q) old new shown =
+-- what a command of a line does, and what is shown of it
+abbrev pub AnswersCommand : DebuggerCommand → List ℕ → Debugger → Debugger → List ℕ → Type 0
+AnswersCommand (command.Plain plain) line old new shown = AnswersPlain plain old new shown
+AnswersCommand (command.Counted counted n) line old new shown = AnswersCounted counted n old new shown
+AnswersCommand (command.Register q) line old new shown =
     OnlyShows (whole_register (state_there old.walk).registers q) old new shown
-AnswersCommand (command.Find part) old new shown = FindsChange (last_change part old.walk.changes) old new shown
-AnswersCommand (command.Watch watched way) old new shown = Watches way watched old new shown
--- the place is noted behind the others
-AnswersCommand (command.Break stop) old new shown = NotesStops (old.stops.items ++ stop ∷ []) old new shown
+AnswersCommand (command.History q) line old new shown = OnlyShows (history_of_register old.walk q) old new shown
+AnswersCommand (command.Find part) line old new shown = FindsChange (last_change part old.walk.changes) old new shown
+AnswersCommand (command.Watch watched way) line old new shown = Watches way watched old new shown
+AnswersCommand (command.Break stop) line old new shown = NotesStop stop old new shown
+-- the string is that of the line, read as a source is
+AnswersCommand (command.BreakIf stop) line old new shown = NotesTest (commands_of (test_in line)) stop old new shown
 
 -- Memory was refused to the command. That alone is shown, with the step at which the walk then stands.
 pub record TellsNoMemory (old new : Debugger) (shown : List ℕ) : Type 0 where
@@ -448,9 +492,9 @@ pub record TellsNoMemory (old new : Debugger) (shown : List ℕ) : Type 0 where
   pub shown_is : shown ≡ answer_line (codes "no memory; the walk stands at step " ++ decimal new.walk.steps)
 
 -- The answer to a line: that of its command, or why it is none.
-abbrev pub IsAnswerTo : Result DebuggerCommand CommandFault → Debugger → Debugger → List ℕ → Type 0
-IsAnswerTo (Ok command) old new shown = AnswersCommand command old new shown ⊎ TellsNoMemory old new shown
-IsAnswerTo (Err fault) old new shown = OnlyShows (answer_line (words_of fault)) old new shown
+abbrev pub IsAnswerTo : Result DebuggerCommand CommandFault → List ℕ → Debugger → Debugger → List ℕ → Type 0
+IsAnswerTo (Ok command) line old new shown = AnswersCommand command line old new shown ⊎ TellsNoMemory old new shown
+IsAnswerTo (Err fault) line old new shown = OnlyShows (answer_line (words_of fault)) old new shown
 
 -- the line asks to leave
 abbrev pub is_leaving : Result DebuggerCommand CommandFault → Bool

@@ -4,6 +4,7 @@ pub mod CommandLine
 pub mod Commands
 pub mod Ending
 pub mod Help
+pub mod History
 pub mod Listing
 pub mod Moving
 pub mod Program
@@ -12,6 +13,7 @@ pub mod Serving
 pub mod Showing
 pub mod Sources
 pub mod Spelling
+pub mod Testing
 pub mod Walk
 pub mod Watching
 pub mod Finding

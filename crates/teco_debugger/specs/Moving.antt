@@ -3,12 +3,14 @@ use Rattle.std.specs.Prelude.{◌≡◌, ◌⊎◌, ℕ, zero, suc, ◌+◌, ◌
 use Rattle.teco_exec.specs.declared.place.Place.{Place}
 use Rattle.teco_messages.specs.Spot.{spot_of}
 use Rattle.teco_messages.specs.declared.spot.Spot.{Spot}
+use Rattle.teco_debugger.specs.Testing.{is_met}
 use Rattle.teco_debugger.specs.Walk.{KeptWalk, SameString, meant}
 use Rattle.teco_debugger.specs.Showing.{step_at}
 use Rattle.teco_debugger.specs.Sources.{IsShownAt, shown_string}
 use Rattle.teco_debugger.specs.declared.sources.SourceText.{SourceText}
 use Rattle.teco_debugger.specs.declared.sources.Shown.{Shown}
 use Rattle.teco_debugger.specs.declared.debugger.Debugger.{Debugger}
+use Rattle.teco_debugger.specs.declared.stops.Break.{Break}
 use Rattle.teco_debugger.specs.declared.stops.Stop.{Stop}
 use Rattle.teco_debugger.specs.declared.stops.Found.{Found}
 use Rattle.teco_debugger.specs.declared.stops.Found.TheVariants.{At, Nowhere, TooFar}
@@ -47,6 +49,10 @@ pub record MovesTo (n : ℕ) (old new : Debugger) (shown : List ℕ) : Type 0 wh
 abbrev pub line_stop : ℕ → Stop
 line_stop line = record { source = None; line = line; column = None }
 
+-- the same, whatever the state there
+abbrev pub line_break : ℕ → Break
+line_break line = record { stop = line_stop line; test = None }
+
 -- a number is the one that is wanted, if one is
 abbrev pub is_or_any : Option ℕ → ℕ → Bool
 is_or_any (Some wanted) n = n == wanted
@@ -57,34 +63,38 @@ abbrev pub is_there : Stop → ℕ → Spot → Bool
 is_there stop number here =
     is_or_any stop.source number && (here.line == stop.line && is_or_any stop.column here.column)
 
--- they are one of these places to stop at
-abbrev pub is_one : List Stop → ℕ → Spot → Bool
-is_one [] number here = false
-is_one (stop ∷ stops) number here = if is_there stop number here then true else is_one stops number here
+-- They are a place to stop at after n steps, and its string gives a number other than 0 there, if it has one.
+abbrev pub is_break : KeptWalk → ℕ → Break → ℕ → Spot → Bool
+is_break walk n it number here = is_there it.stop number here && is_met walk n it.test
+
+-- they are one of these
+abbrev pub is_one : KeptWalk → ℕ → List Break → ℕ → Spot → Bool
+is_one walk n [] number here = false
+is_one walk n (it ∷ stops) number here = if is_break walk n it number here then true else is_one walk n stops number here
 
 -- where a walk that goes on is to stop: at one of these places, with no call open, or with fewer calls open than so many
 pub record Goal : Type 0 where
-  pub stops : List Stop
+  pub stops : List Break
   pub calls : ℕ
 
-abbrev pub goal : List Stop → ℕ → Goal
+abbrev pub goal : List Break → ℕ → Goal
 goal stops calls = record { stops = stops; calls = calls }
 
 -- a place of a run is one of these in a source, with no call open
-abbrev pub is_among : List ℕ → List Stop → ℕ → Place → Bool
-is_among text stops number place =
-    length place.calls.items == 0 && (nat_le place.at (length text) && is_one stops number (spot_of text place.at))
+abbrev pub is_among : KeptWalk → List ℕ → List Break → ℕ → Place → Bool
+is_among walk text stops number place = length place.calls.items == 0
+    && (nat_le place.at (length text) && is_one walk place.steps stops number (spot_of text place.at))
 
-abbrev pub is_at : List ℕ → Goal → ℕ → Place → Bool
-is_at text goal number place = nat_lt (length place.calls.items) goal.calls || is_among text goal.stops number place
+abbrev pub is_at : KeptWalk → List ℕ → Goal → ℕ → Place → Bool
+is_at walk text goal number place = nat_lt (length place.calls.items) goal.calls || is_among walk text goal.stops number place
 
-abbrev pub is_stop_if : List ℕ → Goal → ℕ → ℕ → Option Place → Bool
-is_stop_if text goal n number None = false
-is_stop_if text goal n number (Some place) = place.steps == n && is_at text goal number place
+abbrev pub is_stop_if : KeptWalk → List ℕ → Goal → ℕ → ℕ → Option Place → Bool
+is_stop_if walk text goal n number None = false
+is_stop_if walk text goal n number (Some place) = place.steps == n && is_at walk text goal number place
 
 -- a run that was seen stands after n steps where it is to stop
-abbrev pub is_stop : List ℕ → Goal → ℕ → Shown → Bool
-is_stop text goal n shown = is_stop_if text goal n shown.number shown.seen.place
+abbrev pub is_stop : KeptWalk → List ℕ → Goal → ℕ → Shown → Bool
+is_stop walk text goal n shown = is_stop_if walk text goal n shown.number shown.seen.place
 
 -- how many calls are open there
 abbrev pub calls_of : Option Place → ℕ
@@ -94,7 +104,7 @@ calls_of None = 0
 -- The run of the string under a limit of n steps stands where it is to stop, or not.
 abbrev pub StopsOr : List SourceText → KeptWalk → Goal → ℕ → Bool → Type 0
 StopsOr sources walk goal n so = (shown : Shown) × IsShownAt sources walk n shown
-    × (is_stop (shown_string sources shown.number walk.text) goal n shown ≡ so)
+    × (is_stop walk (shown_string sources shown.number walk.text) goal n shown ≡ so)
 
 -- No step from the one to the other, which is not among them, is where it is to stop.
 abbrev pub PassesBetween : List SourceText → KeptWalk → Goal → ℕ → ℕ → Type 0

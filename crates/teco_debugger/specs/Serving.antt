@@ -29,12 +29,12 @@ pub record TakesLine (line : List ℕ) (before after : Option (List ℕ)) : Type
 abbrev pub Obeys : List ℕ → Option Ending → Debugger → Debugger → Screen → Screen → Type 0
 -- it is answered, and all of the answer is shown
 Obeys line None old new before after = (is_leaving (asked old line) ≡ false)
-    × ((shown : List ℕ) × IsAnswerTo (asked old line) (noted (asked old line) old) new shown × Shows before after shown false)
+    × ((shown : List ℕ) × IsAnswerTo (asked old line) line (noted (asked old line) old) new shown × Shows before after shown false)
 -- it asks to leave
 Obeys line (Some Done) old new before after =
     (is_leaving (asked old line) ≡ true) × (new ≡ old) × (after ≡ before)
 -- a beginning of its answer is shown, and then the terminal failed
-Obeys line (Some ShowFault) old new before after = (shown : List ℕ) × IsAnswerTo (asked old line) (noted (asked old line) old) new shown
+Obeys line (Some ShowFault) old new before after = (shown : List ℕ) × IsAnswerTo (asked old line) line (noted (asked old line) old) new shown
     × ((front : List ℕ) × IsFrontOf front shown × Shows before after front true)
 -- memory was refused, even to say so
 Obeys line (Some NoMemory) old new before after = SameRun old new × (after ≡ before)

@@ -1,12 +1,13 @@
 //! The places to stop at, shown.
 ghost use Rattle.std.specs.Prelude.{◌≡◌, ◌+◌, ◌++◌, ◌<◌, OnOk, length, slice_get};
 ghost use Rattle.std.specs.String.{string_bytes};
-ghost use Rattle.teco_debugger.specs.Breaks.{column_shown, numbered_stop, source_shown, stop_line, stop_lines, stop_shown, stops_shown};
+ghost use Rattle.teco_debugger.specs.Breaks.{column_shown, numbered_stop, source_shown, stop_line, stop_lines, stop_shown, stops_shown, test_shown};
 
 use crate::sources::{SourceText, name_or_none};
-use crate::stops::Stop;
+use crate::stops::{Break, Stop};
 use std::fmt::Write;
 use teco_core::NoMemory;
+use teco_messages::spell;
 
 /// Shows the source of a place, if it is in a certain one.
 fn show_source(
@@ -46,18 +47,32 @@ fn show_stop(out: &mut String, sources: &[SourceText], stop: Stop) -> Result<(),
     show_column(out, stop.column)
 }
 
+/// Shows the string that a place to stop at depends on, if there is one.
+fn show_test(out: &mut String, test: &Option<Vec<u8>>) -> Result<(), NoMemory>
+    ensures { OnOk result (string_bytes out.new ≡ string_bytes out.old ++ test_shown test.now) }
+{
+    match test {
+        None => Ok(()),
+        Some(test) => {
+            out.push_str(" if ")?;
+            spell(out, test.as_slice())
+        }
+    }
+}
+
 /// Shows a place to stop at with its number, in a line.
 #[tactic(auto, unfolding(crate::specs::Breaks::numbered_stop))]
 fn show_numbered_stop(
     out: &mut String,
     sources: &[SourceText],
     number: usize,
-    stop: Stop,
+    it: &Break,
 ) -> Result<(), NoMemory>
-    ensures { OnOk result (string_bytes out.new ≡ string_bytes out.old ++ numbered_stop sources.now number stop) }
+    ensures { OnOk result (string_bytes out.new ≡ string_bytes out.old ++ numbered_stop sources.now number it.now) }
 {
     write!(out, "{number}: ")?;
-    show_stop(out, sources, stop)?;
+    show_stop(out, sources, it.stop)?;
+    show_test(out, &it.test)?;
     out.push_str("\n")
 }
 
@@ -65,7 +80,7 @@ fn show_numbered_stop(
 fn show_stop_line(
     out: &mut String,
     sources: &[SourceText],
-    stops: &[Stop],
+    stops: &[Break],
     k: usize,
 ) -> Result<(), NoMemory>
     requires { k < length stops.now }
@@ -73,12 +88,16 @@ fn show_stop_line(
 {
     match stops.get(k) {
         None => Ok(()),
-        Some(stop) => show_numbered_stop(out, sources, k + 1, *stop),
+        Some(it) => show_numbered_stop(out, sources, k + 1, it),
     }
 }
 
 /// Shows a line for each place to stop at.
-fn show_stop_lines(out: &mut String, sources: &[SourceText], stops: &[Stop]) -> Result<(), NoMemory>
+fn show_stop_lines(
+    out: &mut String,
+    sources: &[SourceText],
+    stops: &[Break],
+) -> Result<(), NoMemory>
     ensures { OnOk result (string_bytes out.new ≡ string_bytes out.old ++ stop_lines sources.now stops.now (length stops.now)) }
 {
     for k in 0..stops.len() {
@@ -88,7 +107,7 @@ fn show_stop_lines(out: &mut String, sources: &[SourceText], stops: &[Stop]) -> 
 }
 
 /// Shows the places to stop at, with their numbers, or says that there is none.
-pub fn show_stops(out: &mut String, sources: &[SourceText], stops: &[Stop]) -> Result<(), NoMemory>
+pub fn show_stops(out: &mut String, sources: &[SourceText], stops: &[Break]) -> Result<(), NoMemory>
     ensures { OnOk result (string_bytes out.new ≡ string_bytes out.old ++ stops_shown sources.now stops.now) }
 {
     if stops.is_empty() {

@@ -2,7 +2,7 @@
 ghost use Rattle.std.specs.List.{prefix_len, suffix_len};
 ghost use Rattle.std.specs.Prelude.{◌≡◌, ℕ, ◌≤◌, length, not, Result, Some};
 ghost use Rattle.teco_debugger.specs.Number.{number_in};
-ghost use Rattle.teco_debugger.specs.Commands.{again_after, break_at, command_in, command_of, find, given, is_blank, is_empty_line, last_piece, part_in, register_in, source_named, stop_behind, stop_in, stop_of, stop_or_list, watch_in, watched_by, watched_in, watched_register, way_in, without_blanks_after, without_blanks_before, words_of};
+ghost use Rattle.teco_debugger.specs.Commands.{again_after, after_word, break_at, break_if, break_in, command_in, command_of, find, given, is_blank, is_empty_line, last_piece, part_in, register_in, is_tested, source_named, stop_behind, stop_in, stop_of, stop_or_list, test_in, behind_if, watch_in, watched_by, watched_in, watched_register, way_in, without_blanks_after, without_blanks_before, words_of};
 
 use crate::number::number_in;
 use crate::part::Part;
@@ -20,10 +20,14 @@ pub enum DebuggerCommand {
     Plain(Plain),
     Counted(Counted, u64),
     Register(Reg),
+    /// The changes of a register.
+    History(Reg),
     /// Back to before the last change of the part.
     Find(Part),
     /// A place more to stop at.
     Break(Stop),
+    /// The same, if the string behind `if` in the line gives a number other than 0 there.
+    BreakIf(Stop),
     /// To the nearest step, this way, where what is watched differs.
     Watch(Watch, Way),
 }
@@ -36,6 +40,7 @@ pub enum CommandFault {
     NoRegister,
     NoPlace,
     NoSource,
+    NoString,
     NoWatch,
     TooMuch,
     NoneBefore,
@@ -52,6 +57,7 @@ impl CommandFault {
             CommandFault::NoRegister => "a register is wanted, A to Z or 0 to 9",
             CommandFault::NoPlace => "a place is wanted, as LINE, LINE:COLUMN or FILE:LINE",
             CommandFault::NoSource => "no source has this name",
+            CommandFault::NoString => "a string is wanted after if",
             CommandFault::NoWatch => "a register, . or Z is wanted, and then back or nothing",
             CommandFault::TooMuch => "nothing is wanted after this command",
             CommandFault::NoneBefore => "no command to do again",
@@ -206,6 +212,56 @@ fn stop_in(sources: &[SourceText], bytes: &[u8]) -> Result<Stop, CommandFault>
     }
 }
 
+/// What comes after the first word.
+fn after_word(bytes: &[u8]) -> &[u8]
+    ensures { result.now ≡ after_word bytes.now }
+{
+    after_blanks(&bytes[word_end(bytes)..])
+}
+
+/// The string behind a place and the word `if`.
+fn behind_if(bytes: &[u8]) -> &[u8]
+    ensures { result.now ≡ behind_if bytes.now }
+{
+    after_word(after_word(bytes))
+}
+
+/// The string behind the word `if` in a line.
+pub fn test_in(line: &[u8]) -> &[u8]
+    ensures { result.now ≡ test_in line.now }
+{
+    behind_if(after_word(after_blanks(before_blanks(line))))
+}
+
+/// Whether the word `if` comes after the first word.
+fn is_tested(bytes: &[u8]) -> bool
+    ensures { result ≡ is_tested bytes.now }
+{
+    let rest = after_word(bytes);
+    &rest[..word_end(rest)] == b"if".as_slice()
+}
+
+/// The command that notes a place to stop at where a string gives a number other than 0.
+fn break_if(sources: &[SourceText], bytes: &[u8]) -> Result<DebuggerCommand, CommandFault>
+    ensures { result ≡ break_if sources.now bytes.now }
+{
+    if behind_if(bytes).is_empty() {
+        return Err(CommandFault::NoString);
+    }
+    let place = &bytes[..word_end(bytes)];
+    Ok(DebuggerCommand::BreakIf(stop_in(sources, place)?))
+}
+
+/// The command that notes a place to stop at.
+fn break_in(sources: &[SourceText], bytes: &[u8]) -> Result<DebuggerCommand, CommandFault>
+    ensures { result ≡ break_in sources.now bytes.now }
+{
+    if is_tested(bytes) {
+        return break_if(sources, bytes);
+    }
+    Ok(DebuggerCommand::Break(stop_in(sources, bytes)?))
+}
+
 /// The command that notes a place to stop at, or lists them.
 fn stop_or_list(sources: &[SourceText], bytes: &[u8]) -> Result<DebuggerCommand, CommandFault>
     ensures { result ≡ stop_or_list sources.now bytes.now }
@@ -213,7 +269,7 @@ fn stop_or_list(sources: &[SourceText], bytes: &[u8]) -> Result<DebuggerCommand,
     if bytes.is_empty() {
         return Ok(DebuggerCommand::Plain(Plain::Breaks));
     }
-    Ok(DebuggerCommand::Break(stop_in(sources, bytes)?))
+    break_in(sources, bytes)
 }
 
 /// The register of this name, to be watched.
@@ -291,6 +347,7 @@ fn command_in(
             Ok(DebuggerCommand::Counted(counted, number_in(bytes)?))
         }
         Takes::Register => Ok(DebuggerCommand::Register(register_in(bytes)?)),
+        Takes::History => Ok(DebuggerCommand::History(register_in(bytes)?)),
         Takes::Part => find_in(bytes),
         Takes::Stop => stop_or_list(sources, bytes),
         Takes::Watch => watch_in(bytes),
@@ -316,7 +373,9 @@ impl DebuggerCommand {
         ensures { result ≡ again_after self.now }
     {
         match self {
-            DebuggerCommand::Break(_) | DebuggerCommand::Counted(Counted::Delete, _) => None,
+            DebuggerCommand::Break(_)
+            | DebuggerCommand::BreakIf(_)
+            | DebuggerCommand::Counted(Counted::Delete, _) => None,
             _ => Some(*self),
         }
     }

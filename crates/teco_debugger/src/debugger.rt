@@ -1,23 +1,27 @@
 //! The commands, done by a walk.
 ghost use Rattle.std.specs.Prelude.{◌≡◌, ◌+◌, ◌++◌, ◌∷◌, [], IfOk, None, Ok, OnOk, slice_get};
 ghost use Rattle.std.specs.String.{string_bytes};
-ghost use Rattle.teco_debugger.specs.Commands.{IsAnswerTo, AnswersCommand, AnswersCounted, AnswersPlain, Deletes, Finishes, GoesByFound, GoesOnTo, GoesOnToStop, GoesOrSays, HasOpenCalls, ShowsSeen, TakesBack, Watches, asked, noted, or_none_before, words_without};
-ghost use Rattle.teco_debugger.specs.Moving.{Arrives, IsFound, MovesTo, SameRun, goal, line_stop};
+ghost use Rattle.teco_debugger.specs.Commands.{IsAnswerTo, AnswersCommand, AnswersCounted, AnswersPlain, Deletes, Finishes, GoesByFound, GoesOnTo, GoesOnToStop, GoesOrSays, HasOpenCalls, NotesTest, ShowsSeen, TakesBack, Watches, asked, noted, or_none_before, test_in, words_without};
+ghost use Rattle.teco_debugger.specs.Moving.{Arrives, IsFound, MovesTo, SameRun, goal, line_break};
+ghost use Rattle.teco_source.specs.Source.{commands_of};
 
 use crate::around::show_around;
 use crate::breaks::show_stops;
-use crate::command::is_empty_line;
+use crate::command::{is_empty_line, test_in};
 use crate::help::{show_help, verb_rows};
+use crate::history::show_history;
 use crate::listing::{show_register, show_registers, show_state, show_text};
 use crate::moving::{ahead, behind};
 use crate::saying::{show_far, show_typed, show_words, words_without};
 use crate::showing::{show_step, show_where};
 use crate::sources::{SourceText, look, shown_name, shown_string};
-use crate::stops::{Found, Stop, calls_of, line_stop, next_stop};
+use crate::stops::{Break, Found, Stop, calls_of, line_break, next_stop};
+use crate::view::View;
 use crate::watching::nearest_other;
 use crate::{CommandFault, Counted, DebuggerCommand, Plain, Walk, Watch, Way};
 use std::alloc::Global;
 use teco_core::NoMemory;
+use teco_source::{ReaderFault, commands};
 use teco_store::Desk;
 
 /// A walk, with what the commands need beside it.
@@ -28,24 +32,11 @@ pub struct Debugger {
     /// Where the walk stood before each move that can be taken back.
     moves: Vec<u64>,
     /// The places to stop at, in the order in which they were noted.
-    stops: Vec<Stop>,
+    stops: Vec<Break>,
     /// The command that an empty line asks for.
     again: Option<DebuggerCommand>,
     /// The sources of the string, in their order; none where it is shown as it is.
     sources: Vec<SourceText>,
-}
-
-/// What is shown of where a walk stands.
-#[derive(Clone, Copy)]
-pub enum View {
-    /// The step, the place and the token, in a line.
-    Step,
-    /// All that is open there, too.
-    Where,
-    /// So many lines before and after that of the step.
-    Around(u64),
-    /// What was typed so far.
-    Typed,
 }
 
 impl Debugger {
@@ -161,7 +152,7 @@ impl Debugger {
     }
 
     /// Looks for the next step at one of these places, or with fewer calls open than `calls`.
-    fn next_stop(&self, stops: &[Stop], calls: usize) -> Result<Found, NoMemory>
+    fn next_stop(&self, stops: &[Break], calls: usize) -> Result<Found, NoMemory>
         ensures { IfOk result (IsFound self.now.sources.items self.now.walk (goal stops.now calls) (self.now.walk.steps + 1) self.now.limit) }
     {
         let steps = self.walk.steps();
@@ -188,10 +179,10 @@ impl Debugger {
     /// Goes on to the next step in this line.
     fn go_on_to(&mut self, out: &mut String, line: u64) -> Result<(), NoMemory>
         requires { string_bytes out.old ≡ [] }
-        ensures continues { OnOk result (GoesOnTo (goal (line_stop line ∷ []) 0) self.old self.new (string_bytes out.new)) }
+        ensures continues { OnOk result (GoesOnTo (goal (line_break line ∷ []) 0) self.old self.new (string_bytes out.new)) }
         ensures same { SameRun self.old self.new }
     {
-        let found = self.next_stop(&[line_stop(line)], 0)?;
+        let found = self.next_stop(&[line_break(line)], 0)?;
         self.go_by(out, found)
     }
 
@@ -241,6 +232,25 @@ impl Debugger {
             return Ok(());
         }
         show_words(out, "no place to stop at has this number")
+    }
+
+    /// Notes a place to stop at where the string of a line gives a number other than 0.
+    fn note_test(&mut self, out: &mut String, stop: Stop, line: &[u8]) -> Result<(), NoMemory>
+        requires { string_bytes out.old ≡ [] }
+        ensures notes { OnOk result (NotesTest (commands_of (test_in line.now)) stop self.old self.new (string_bytes out.new)) }
+        ensures same { SameRun self.old self.new }
+    {
+        match commands(self.walk.alloc(), test_in(line)) {
+            Ok(test) => {
+                let test = Some(test);
+                self.stops.push(Break { stop, test })?;
+                Ok(())
+            }
+            Err(ReaderFault::Memory) => Err(NoMemory),
+            Err(ReaderFault::Caret(_)) => {
+                show_words(out, "a caret before what it cannot stand before")
+            }
+        }
     }
 
     /// Goes to the nearest step at which what is watched differs from here.
@@ -293,25 +303,32 @@ impl Debugger {
         }
     }
 
-    /// Does a command, and shows what it finds.
-    fn answer(&mut self, out: &mut String, command: DebuggerCommand) -> Result<(), NoMemory>
+    /// Does the command of a line, and shows what it finds.
+    fn answer(
+        &mut self,
+        out: &mut String,
+        command: DebuggerCommand,
+        line: &[u8],
+    ) -> Result<(), NoMemory>
         requires { string_bytes out.old ≡ [] }
-        ensures answers { OnOk result (AnswersCommand command self.old self.new (string_bytes out.new)) }
+        ensures answers { OnOk result (AnswersCommand command line.now self.old self.new (string_bytes out.new)) }
         ensures same { SameRun self.old self.new }
     {
         match command {
             DebuggerCommand::Plain(plain) => self.answer_plain(out, plain),
             DebuggerCommand::Counted(counted, n) => self.answer_counted(out, counted, n),
             DebuggerCommand::Register(q) => show_register(out, self.walk.editor().registers(), q),
+            DebuggerCommand::History(q) => show_history(out, &self.walk, q),
             DebuggerCommand::Find(part) => {
                 let to = self.walk.last_change(&part);
                 self.go_or_say(out, to, "no step before this one changed it")
             }
             DebuggerCommand::Watch(watch, way) => self.watch(out, watch, way),
             DebuggerCommand::Break(stop) => {
-                self.stops.push(stop)?;
+                self.stops.push(Break { stop, test: None })?;
                 Ok(())
             }
+            DebuggerCommand::BreakIf(stop) => self.note_test(out, stop, line),
         }
     }
 
@@ -320,12 +337,13 @@ impl Debugger {
         &mut self,
         alloc: Global,
         command: DebuggerCommand,
+        line: &[u8],
     ) -> Result<String, NoMemory>
-        ensures answers { IfOk result (λ text. IsAnswerTo (Ok command) self.old self.new (string_bytes text)) }
+        ensures answers { IfOk result (λ text. IsAnswerTo (Ok command) line.now self.old self.new (string_bytes text)) }
         ensures same { SameRun self.old self.new }
     {
         let mut out = String::new(alloc);
-        match self.answer(&mut out, command) {
+        match self.answer(&mut out, command, line) {
             Ok(()) => Ok(out),
             Err(NoMemory) => {
                 let steps = self.walk.steps();
@@ -349,12 +367,13 @@ impl Debugger {
         &mut self,
         alloc: Global,
         asked: &Result<DebuggerCommand, CommandFault>,
+        line: &[u8],
     ) -> Result<String, NoMemory>
-        ensures answers { IfOk result (λ text. IsAnswerTo asked.now self.old self.new (string_bytes text)) }
+        ensures answers { IfOk result (λ text. IsAnswerTo asked.now line.now self.old self.new (string_bytes text)) }
         ensures same { SameRun self.old self.new }
     {
         match asked {
-            Ok(command) => self.answer_or_lack(alloc, *command),
+            Ok(command) => self.answer_or_lack(alloc, *command, line),
             Err(fault) => format!(in alloc; "{fault}\n"),
         }
     }
@@ -364,11 +383,12 @@ impl Debugger {
         &mut self,
         alloc: Global,
         asked: &Result<DebuggerCommand, CommandFault>,
+        line: &[u8],
     ) -> Result<String, NoMemory>
-        ensures answers { IfOk result (λ text. IsAnswerTo asked.now (noted asked.now self.old) self.new (string_bytes text)) }
+        ensures answers { IfOk result (λ text. IsAnswerTo asked.now line.now (noted asked.now self.old) self.new (string_bytes text)) }
         ensures same { SameRun self.old self.new }
     {
         self.note(asked);
-        self.answer_asked(alloc, asked)
+        self.answer_asked(alloc, asked, line)
     }
 }

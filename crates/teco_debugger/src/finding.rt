@@ -7,7 +7,7 @@ use teco_session::Changes;
 use teco_store::ChangeKind;
 
 /// Whether a change of this kind is for the part.
-fn is_for(part: &Part, kind: ChangeKind) -> bool
+pub fn is_for(part: &Part, kind: ChangeKind) -> bool
     ensures { result ≡ is_for part.now kind }
 {
     match (part, kind) {

@@ -9,6 +9,7 @@ mod debugger;
 mod ending;
 mod finding;
 mod help;
+mod history;
 mod line;
 mod listing;
 mod moving;
@@ -21,8 +22,10 @@ mod serving;
 mod showing;
 mod sources;
 mod stops;
+mod testing;
 mod typing;
 mod verb;
+mod view;
 mod walk;
 mod watching;
 

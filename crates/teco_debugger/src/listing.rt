@@ -14,7 +14,7 @@ use teco_step::line_place;
 use teco_store::{Desk, Editor, part};
 
 /// The most bytes that are shown of a register's text among others.
-const MOST_SHOWN: usize = 40;
+pub const MOST_SHOWN: usize = 40;
 
 /// The names of the registers, in the order in which they are listed.
 const NAMES: &[u8; 36] = b"ABCDEFGHIJKLMNOPQRSTUVWXYZ0123456789";
@@ -114,7 +114,13 @@ fn show_held(out: &mut String, text: &[u8], most: usize) -> Result<(), NoMemory>
     show_rest(out, text.len(), most)
 }
 
-fn show_value(out: &mut String, registers: &Registers, q: Reg, most: usize) -> Result<(), NoMemory>
+/// Shows what a register holds, with so many bytes of its text at most.
+pub fn show_value(
+    out: &mut String,
+    registers: &Registers,
+    q: Reg,
+    most: usize,
+) -> Result<(), NoMemory>
     ensures { OnOk result (string_bytes out.new ≡ string_bytes out.old ++ register_shown registers.now q most) }
 {
     let name = letter(q);

@@ -52,7 +52,7 @@ fn obey<T: Terminal>(
     if is_leaving(&asked) {
         return Some(Ending::Done);
     }
-    match debugger.answer_to(alloc, &asked) {
+    match debugger.answer_to(alloc, &asked, line) {
         Err(NoMemory) => Some(Ending::NoMemory),
         Ok(text) => match term.put(text.as_bytes()) {
             Ok(()) => None,

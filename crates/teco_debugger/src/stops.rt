@@ -1,14 +1,16 @@
 //! Where a walk stops on its way.
 ghost use Rattle.std.specs.Prelude.{◌≡◌, IfOk, length, option_copied};
-ghost use Rattle.teco_debugger.specs.Moving.{IsFound, calls_of, goal, is_among, is_at, is_one, is_or_any, is_stop, is_there, line_stop};
+ghost use Rattle.teco_debugger.specs.Moving.{IsFound, calls_of, goal, is_among, is_at, is_break, is_one, is_or_any, is_stop, is_there, line_break, line_stop};
 
 use crate::Walk;
 use crate::sources::{Shown, SourceText, look, shown_string};
+use crate::testing::is_met;
 use teco_core::NoMemory;
 use teco_exec::Place;
 use teco_messages::{Spot, spot_of};
 
-/// The most steps that `continue` runs in all; each step that it looks at is run to from the beginning.
+/// The most steps that `continue` runs in all to look at each step, to which it runs from the beginning. Where a string is tried, it
+/// runs to there once more.
 const MOST_WORK: u64 = 100_000_000;
 
 /// A place to stop at.
@@ -21,6 +23,14 @@ pub struct Stop {
     pub column: Option<u64>,
 }
 
+/// A place to stop at that is noted.
+#[derive(Drop)]
+pub struct Break {
+    pub stop: Stop,
+    /// The string that gives a number other than 0 where it is to stop, if that depends on one.
+    pub test: Option<Vec<u8>>,
+}
+
 /// Anywhere in this line, of any source.
 pub fn line_stop(line: u64) -> Stop
     ensures { result ≡ line_stop line }
@@ -29,6 +39,16 @@ pub fn line_stop(line: u64) -> Stop
         source: None,
         line,
         column: None,
+    }
+}
+
+/// Anywhere in this line, whatever the state there.
+pub fn line_break(line: u64) -> Break
+    ensures { result ≡ line_break line }
+{
+    Break {
+        stop: line_stop(line),
+        test: None,
     }
 }
 
@@ -59,41 +79,75 @@ fn is_there(stop: Stop, number: usize, here: Spot) -> bool
     is_in(stop, number) && here.line == stop.line && is_under(stop, here.column)
 }
 
-/// Whether a line and a column of a source are one of the places to stop at.
-fn is_one(stops: &[Stop], number: usize, here: Spot) -> bool
-    ensures { result ≡ is_one stops.now number here }
+/// Whether a line and a column of a source, after `n` steps, are a place to stop at, and its string gives a number other than 0 there.
+fn is_break(walk: &Walk, n: u64, it: &Break, number: usize, here: Spot) -> Result<bool, NoMemory>
+    ensures { IfOk result (λ so. so ≡ is_break walk.now n it.now number here) }
 {
-    for stop in stops {
-        if is_there(*stop, number, here) {
-            return true;
+    if !is_there(it.stop, number, here) {
+        return Ok(false);
+    }
+    is_met(walk, n, &it.test)
+}
+
+/// Whether they are one of these.
+fn is_one(walk: &Walk, n: u64, stops: &[Break], number: usize, here: Spot) -> Result<bool, NoMemory>
+    ensures { IfOk result (λ so. so ≡ is_one walk.now n stops.now number here) }
+{
+    for it in stops {
+        if is_break(walk, n, it, number, here)? {
+            return Ok(true);
         }
     }
-    false
+    Ok(false)
 }
 
 /// Whether a place of a run is one of these in a source, with no call open.
-fn is_among(text: &[u8], stops: &[Stop], number: usize, place: &Place) -> bool
-    ensures { result ≡ is_among text.now stops.now number place.now }
+fn is_among(
+    walk: &Walk,
+    text: &[u8],
+    stops: &[Break],
+    number: usize,
+    place: &Place,
+) -> Result<bool, NoMemory>
+    ensures { IfOk result (λ so. so ≡ is_among walk.now text.now stops.now number place.now) }
 {
-    place.calls.is_empty()
-        && place.at <= text.len()
-        && is_one(stops, number, spot_of(text, place.at))
+    if !place.calls.is_empty() || place.at > text.len() {
+        return Ok(false);
+    }
+    is_one(walk, place.steps, stops, number, spot_of(text, place.at))
 }
 
 /// Whether a place of a run is where to stop: one of these, or with fewer calls open than `calls`.
-fn is_at(text: &[u8], stops: &[Stop], calls: usize, number: usize, place: &Place) -> bool
-    ensures { result ≡ is_at text.now (goal stops.now calls) number place.now }
+fn is_at(
+    walk: &Walk,
+    text: &[u8],
+    stops: &[Break],
+    calls: usize,
+    number: usize,
+    place: &Place,
+) -> Result<bool, NoMemory>
+    ensures { IfOk result (λ so. so ≡ is_at walk.now text.now (goal stops.now calls) number place.now) }
 {
-    place.calls.len() < calls || is_among(text, stops, number, place)
+    if place.calls.len() < calls {
+        return Ok(true);
+    }
+    is_among(walk, text, stops, number, place)
 }
 
 /// Whether a run that was seen stands there after `n` steps.
-fn is_stop(text: &[u8], stops: &[Stop], calls: usize, n: u64, shown: &Shown) -> bool
-    ensures { result ≡ is_stop text.now (goal stops.now calls) n shown.now }
+fn is_stop(
+    walk: &Walk,
+    text: &[u8],
+    stops: &[Break],
+    calls: usize,
+    n: u64,
+    shown: &Shown,
+) -> Result<bool, NoMemory>
+    ensures { IfOk result (λ so. so ≡ is_stop walk.now text.now (goal stops.now calls) n shown.now) }
 {
     match &shown.seen.place {
-        Some(place) => place.steps == n && is_at(text, stops, calls, shown.number, place),
-        None => false,
+        Some(place) if place.steps == n => is_at(walk, text, stops, calls, shown.number, place),
+        _ => Ok(false),
     }
 }
 
@@ -122,7 +176,7 @@ pub enum Found {
 pub fn next_stop(
     walk: &Walk,
     sources: &[SourceText],
-    stops: &[Stop],
+    stops: &[Break],
     calls: usize,
     from: u64,
     limit: u64,
@@ -140,7 +194,8 @@ pub fn next_stop(
             return Ok(Found::Nowhere);
         }
         let text = shown_string(sources, shown.number, walk.text());
-        if is_stop(text, stops, calls, n, &shown) {
+        let stands = is_stop(walk, text, stops, calls, n, &shown)?;
+        if stands {
             return Ok(Found::At(n));
         }
     }

@@ -51,6 +51,8 @@ pub(crate) enum Takes {
     NumberOr(Counted, u64),
     /// A register.
     Register,
+    /// A register whose changes are asked for.
+    History,
     /// A register, or the word `text`.
     Part,
     /// A place of the string to stop at, or nothing.
@@ -74,7 +76,7 @@ pub struct VerbRow {
 }
 
 /// Every command, in the order of the help.
-pub const VERBS: [VerbRow; 22] = [
+pub const VERBS: [VerbRow; 23] = [
     VerbRow {
         word: "next",
         letter: "n",
@@ -160,11 +162,18 @@ pub const VERBS: [VerbRow; 22] = [
         help: "back to the step that changed register R, or the buffer, last",
     },
     VerbRow {
+        word: "history",
+        letter: "p",
+        takes: Takes::History,
+        operand: "R",
+        help: "the last 100 changes of register R up to here, the last first, with the steps before each",
+    },
+    VerbRow {
         word: "break",
         letter: "k",
         takes: Takes::Stop,
         operand: "[PLACE]",
-        help: "notes LINE, LINE:COLUMN, FILE:LINE or FILE:LINE:COLUMN; lists the places without one",
+        help: "notes LINE, LINE:COLUMN, FILE:LINE or FILE:LINE:COLUMN, and if STRING; lists them without one",
     },
     VerbRow {
         word: "delete",

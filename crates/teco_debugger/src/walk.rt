@@ -11,7 +11,7 @@ use crate::finding::last_change;
 use std::alloc::Global;
 use std::marker::Model;
 use teco_core::{Code, NoMemory};
-use teco_exec::{Never, Options, Outcome, Place, Watched, meaning_laws, run_with};
+use teco_exec::{Never, Options, Outcome, Place, Unwatched, Watched, meaning_laws, run_with};
 use teco_io::MemoryTerminal;
 use teco_session::{Answer, Changes, Session};
 use teco_store::Editor;
@@ -48,7 +48,7 @@ pub struct Seen {
 }
 
 /// Whether a run ended for want of memory. A terminal in memory fails for want of it alone.
-fn lacks_memory(code: Option<Code>) -> bool
+pub fn lacks_memory(code: Option<Code>) -> bool
     ensures { result ≡ lacks_memory code }
 {
     match code {
@@ -193,6 +193,29 @@ impl Walk {
                 Err(NoMemory)
             }
         }
+    }
+
+    /// Another editor in the state after the first `n` steps of the string, or after all that it takes where those are fewer.
+    pub fn editor_after(&self, n: u64) -> Result<Editor, NoMemory>
+        ensures { IfOk result (λ editor. state_of editor ≡ (meant self.now.input self.now.text n).state) }
+    {
+        let mut editor = Editor::new(Vec::from_slice(self.alloc(), self.input.as_slice())?);
+        let mut terminal = MemoryTerminal::new(self.alloc());
+        let options = Options {
+            limit: n,
+            stop: &mut Never,
+        };
+        let ran = run_with(
+            &mut editor,
+            self.text.as_slice(),
+            &mut terminal,
+            options,
+            Unwatched,
+        );
+        if lacks_memory(ran.outcome.code) {
+            return Err(NoMemory);
+        }
+        Ok(editor)
     }
 
     /// Runs the string from its beginning under a limit of `n` steps, apart from the walk, and tells what that shows.

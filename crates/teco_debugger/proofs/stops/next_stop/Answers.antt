@@ -10,11 +10,11 @@ returns-then-n-work c =
     let inv = c.loop-n.invariant in
     is_too_far c.args.sources.now c.args.walk.now (to_stop c.args.stops.now c.args.calls) c.args.from c.loop-n.n c.loop-n.work inv.0 c.if-n-work.true inv.1
 
-pub returns-then-is_stop : goal.returns-then-is_stop
-returns-then-is_stop c =
+pub returns-then-stands : goal.returns-then-stands
+returns-then-stands c =
     let shown = c.in_ok-shown.shown in
     let string = c.shown_string-text.ensures ∙ ap (shown_string c.args.sources.now shown.number) c.text.ensures in
-    let here = ap (λ (t : List ℕ). is_stop t (to_stop c.args.stops.now c.args.calls) c.loop-n.n shown) (sym string) ∙ (sym c.is_stop.ensures ∙ c.if-is_stop.true) in
+    let here = ap (λ (t : List ℕ). is_stop c.args.walk.now t (to_stop c.args.stops.now c.args.calls) c.loop-n.n shown) (sym string) ∙ (sym c.in_ok-stands.ensures ∙ c.if-stands.true) in
     record {
       after = c.loop-n.auto.n;
       here = (shown, c.in_ok-shown.ensures.seen, here);
@@ -26,7 +26,7 @@ loop-n-preserved c =
     let inv = c.loop-n.invariant in
     let shown = c.in_ok-shown.shown in
     let string = c.shown_string-text.ensures ∙ ap (shown_string c.args.sources.now shown.number) c.text.ensures in
-    let here = ap (λ (t : List ℕ). is_stop t (to_stop c.args.stops.now c.args.calls) c.loop-n.n shown) (sym string) ∙ (sym c.is_stop.ensures ∙ c.if-is_stop.false) in (
+    let here = ap (λ (t : List ℕ). is_stop c.args.walk.now t (to_stop c.args.stops.now c.args.calls) c.loop-n.n shown) (sym string) ∙ (sym c.in_ok-stands.ensures ∙ c.if-stands.false) in (
       work_more c.loop-n.n c.loop-n.work (c.loop-n.work - c.loop-n.n) (MOST_WORK + work_below c.args.from) c.if-n-work.false inv.0 refl,
       passes_more c.args.sources.now c.args.walk.now (to_stop c.args.stops.now c.args.calls) c.args.from c.loop-n.n inv.1 (shown, c.in_ok-shown.ensures.seen, here),
     )
