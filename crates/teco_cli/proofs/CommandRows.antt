@@ -16,6 +16,7 @@ pub record Row : Type 0 where
   pub output : Option Text
   pub in_place : Option Text
   pub backup : Option Text
+  pub session : Option Text
   pub prompt : Option Text
   pub check : Option Text
   pub explain : Option Text
@@ -32,6 +33,7 @@ row_of words = record {
   output = first_of (codes "output") (matches_of teco_app words);
   in_place = one_of (codes "in-place") (matches_of teco_app words);
   backup = first_of (codes "backup") (matches_of teco_app words);
+  session = first_of (codes "session") (matches_of teco_app words);
   prompt = one_of (codes "prompt") (matches_of teco_app words);
   check = one_of (codes "check") (matches_of teco_app words);
   explain = one_of (codes "explain") (matches_of teco_app words);
@@ -50,6 +52,7 @@ plain input = record {
   output = None;
   in_place = Some (codes "false");
   backup = None;
+  session = None;
   prompt = Some (codes "false");
   check = Some (codes "false");
   explain = Some (codes "false");
@@ -266,6 +269,16 @@ backup_words : map with_backups (
     ∷ []
 unfolding backups_after
 backup_words = refl
+
+-- teco --session s a; teco a --session=s
+sessions_given : map row_of (
+    (codes "teco" ∷ codes "--session" ∷ codes "s" ∷ codes "a" ∷ [])
+    ∷ (codes "teco" ∷ codes "a" ∷ codes "--session=s" ∷ [])
+    ∷ []) ≡ record (plain (codes "a")) { session = Some (codes "s") }
+    ∷ record (plain (codes "a")) { session = Some (codes "s") }
+    ∷ []
+unfolding clap_on_literals
+sessions_given = refl
 
 -- teco --backup=.bak a; teco --backup=.bak --backup .old a
 backups_given : map row_of (

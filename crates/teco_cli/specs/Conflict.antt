@@ -1,6 +1,7 @@
 -- What a line can't say together, though the parser takes it.
 use Rattle.std.specs.Prelude.{ℕ, Bool, true, false, not, ◌&&◌, ◌||◌, ◌==◌, List, ◌∷◌, length, is_some, nat_lt, Some, None}
 use Rattle.std.specs.List.{list_any}
+use Rattle.std.specs.Str.{bytes_eq}
 use Rattle.std.specs.String.{string_bytes}
 use Rattle.teco_cli.specs.StreamNames.{is_standard_input}
 use Rattle.teco_cli.specs.declared.line.Commands.{Commands}
@@ -65,7 +66,30 @@ is_suffix text = nat_lt 0 (length text) && not (has_slash text)
 abbrev pub keeps_under_no_name : Line → Bool
 keeps_under_no_name line = elim line.backup [ Some suffix ↦ not (is_suffix (string_bytes suffix)) | None ↦ false ]
 
+abbrev pub are_on_pages : Commands → Bool
+are_on_pages StandardInput = false
+are_on_pages (Sources names word) = false
+are_on_pages (Pages word) = true
+are_on_pages (Bytes name) = false
+
+-- A session is of one INPUT as it is read, and of commands that are run as they are.
+abbrev pub is_unfit_for_session : Line → Bool
+is_unfit_for_session line = line.check || (has_more line || (are_on_pages line.commands || nat_lt 0 (length line.values.items)))
+
+-- this is the input, or where the output goes
+abbrev pub is_edited : Line → List ℕ → Bool
+is_edited line file = bytes_eq (string_bytes line.input) file
+    || (elim line.output [ Some output ↦ bytes_eq (string_bytes output) file | None ↦ false ])
+
+-- the session is kept in the file that is edited, or there is none to keep
+abbrev pub has_wrong_session : Line → Bool
+has_wrong_session line = elim line.session [
+  | Some file ↦ is_unfit_for_session line || is_edited line (string_bytes file)
+  | None ↦ false
+]
+
 -- The line says one of these: it is faulty.
 abbrev pub has_conflict : Line → Bool
 has_conflict line = has_two_places line || (has_one_place_for_many line || (awaits_for_many line
-    || (shares_standard_input line || (writes_over_a_stream line || (checks_awaited line || keeps_under_no_name line)))))
+    || (shares_standard_input line || (writes_over_a_stream line || (checks_awaited line
+    || (keeps_under_no_name line || has_wrong_session line))))))

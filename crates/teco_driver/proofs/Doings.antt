@@ -422,15 +422,15 @@ finishes_on_terminal output name in_place suffix disk screen old new fate exit h
 
 -- The commands were opened on the disk before: a run from there on is one from before.
 module _ {I : Type 0} (old mid new : DiskSeen I) (kept : KeepsDisk old mid) (stream : InputSeen) (name : List ℕ) where
-  lacks_from : (b : Bool) (fate : Fate) → (input_from b stream (named_input mid new name)).lacks fate → (input_from b stream (named_input old new name)).lacks fate
+  pub lacks_from : (b : Bool) (fate : Fate) → (input_from b stream (named_input mid new name)).lacks fate → (input_from b stream (named_input old new name)).lacks fate
   lacks_from true fate l = l
   lacks_from false fate l = lacks_after kept new name fate l
 
-  is_input_from : (b : Bool) (bytes : List ℕ) → (input_from b stream (named_input mid new name)).is_input bytes → (input_from b stream (named_input old new name)).is_input bytes
+  pub is_input_from : (b : Bool) (bytes : List ℕ) → (input_from b stream (named_input mid new name)).is_input bytes → (input_from b stream (named_input old new name)).is_input bytes
   is_input_from true bytes i = i
   is_input_from false bytes i = record { small = i.small; whole = λ before told. i.whole before (kept.files ∙ told) }
 
-  irregular_from : (b : Bool) → (input_from b stream (named_input mid new name)).is_irregular → (input_from b stream (named_input old new name)).is_irregular
+  pub irregular_from : (b : Bool) → (input_from b stream (named_input mid new name)).is_irregular → (input_from b stream (named_input old new name)).is_irregular
   irregular_from true i = i
   irregular_from false i = λ there.
       let given = i (λ none. there (sym kept.files ∙ none)) in

@@ -1,10 +1,10 @@
 -- Files of commands that are looked for, one after another.
 use Rattle.std.proofs.Common.{◌≡◌, ◌++◌, ◌∙◌, ◌||◌, ℕ, List, [], ◌∷◌, Bool, Option, true, false, String, Global, refl, sym, ap, subst, true≢false, inl, inr, length, map}
 use Rattle.std.specs.List.{list_any}
-use Rattle.std.specs.Prelude.{nat_eq}
+use Rattle.std.specs.Prelude.{None, Some, nat_eq, nat_lt}
 use Rattle.std.specs.declared.vec.Vec.{Vec}
 use Rattle.std.specs.String.{string_bytes}
-use Rattle.teco_cli.specs.Conflict.{are_awaited, are_on_standard_input, has_conflict, has_slash}
+use Rattle.teco_cli.specs.Conflict.{are_awaited, are_on_pages, are_on_standard_input, has_conflict, has_more, has_wrong_session, is_edited, has_slash}
 use Rattle.teco_cli.specs.StreamNames.{is_standard_input}
 use Rattle.teco_cli.specs.declared.line.Commands.{Commands}
 use Rattle.teco_cli.specs.declared.line.Commands.TheVariants.{StandardInput, Sources, Pages, Bytes}
@@ -72,13 +72,31 @@ same_waiting seen (f ∷ fs) (Sources names word) found old new h = ap are_await
 same_waiting seen (f ∷ fs) (Pages word) found old new h = ap are_awaited h.0
 same_waiting seen (f ∷ fs) (Bytes name) found old new h = ap are_awaited h.0
 
+-- And they are for every page, if and only if those are.
+same_pages : {D I : Type 0} (seen : D → DiskSeen I) (folders : List (List ℕ)) (commands found : Commands) (old new : D)
+    → FindsFiles seen folders commands old new found → are_on_pages found ≡ are_on_pages commands
+same_pages seen [] commands found old new h = ap are_on_pages h.0
+same_pages seen (f ∷ fs) StandardInput found old new h = ap are_on_pages h.0
+same_pages seen (f ∷ fs) (Sources names word) found old new h = ap are_on_pages h.1
+same_pages seen (f ∷ fs) (Pages word) found old new h = ap are_on_pages h.0
+same_pages seen (f ∷ fs) (Bytes name) found old new h = ap are_on_pages h.0
+
+-- whether the session is kept in a wrong place, by whether the commands are for every page
+abbrev wrong_by : Line → Bool → Bool
+wrong_by line on_pages = elim line.session [
+  | Some file ↦ (line.check || (has_more line || (on_pages || nat_lt 0 (length line.values.items)))) || is_edited line (string_bytes file)
+  | None ↦ false
+]
+
 -- The line with the names that are found has a conflict or notes only if the line has.
 pub fits_still : {D I : Type 0} (seen : D → DiskSeen I) (folders : List (List ℕ)) (line : Line) (found : Commands) (old new : D)
     → FindsFiles seen folders line.commands old new found → has_conflict line ≡ false → has_conflict (with_commands line found) ≡ false
 fits_still seen folders line found old new h fits =
     let placed = same_places seen folders line.commands found old new h in
     let waiting = same_waiting seen folders line.commands found old new h in
-    rw (placed, waiting) fits
+    let pages = same_pages seen folders line.commands found old new h in
+    let wrong : has_wrong_session (with_commands line found) ≡ has_wrong_session line = ap (wrong_by line) pages in
+    rw (placed, waiting, wrong) fits
 
 pub silent_still : {D I : Type 0} (seen : D → DiskSeen I) (folders : List (List ℕ)) (line : Line) (found : Commands) (old new : D)
     → FindsFiles seen folders line.commands old new found → has_notes line ≡ false → has_notes (with_commands line found) ≡ false

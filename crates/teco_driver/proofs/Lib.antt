@@ -9,3 +9,5 @@ pub mod Parts
 pub mod PageFits
 pub mod FirstValues
 pub mod FoundFiles
+pub mod Sessions
+pub mod SessionTexts

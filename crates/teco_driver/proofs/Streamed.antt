@@ -4,7 +4,7 @@ use Rattle.std.specs.List.{list_any}
 use Rattle.std.specs.String.{string_bytes}
 use Rattle.std.specs.declared.string.String.{String}
 use Rattle.std.specs.declared.alloc.Global.{Global}
-use Rattle.teco_cli.specs.Conflict.{are_on_standard_input, awaits_for_many, checks_awaited, has_conflict, has_one_place_for_many, has_standard_input, has_two_places, keeps_under_no_name, shares_standard_input, writes_over_a_stream}
+use Rattle.teco_cli.specs.Conflict.{are_on_standard_input, awaits_for_many, checks_awaited, has_conflict, has_one_place_for_many, has_standard_input, has_two_places, has_wrong_session, keeps_under_no_name, shares_standard_input, writes_over_a_stream}
 use Rattle.teco_cli.specs.declared.line.Commands.{Commands}
 use Rattle.teco_cli.specs.declared.line.Commands.TheVariants.{StandardInput, Sources, Pages, Bytes}
 use Rattle.teco_cli.specs.declared.line.Line.{Line}
@@ -42,10 +42,10 @@ are_on (Bytes name) wanted is = is name refl
 pub input_apart : (line : Line) → has_conflict line ≡ false → come_as_wanted line.commands ≡ true → IsStreamOf line.commands → is_standard_input (string_bytes line.input) ≡ false
 input_apart line fits wanted is =
     let on = are_on line.commands wanted is in
-    let after_two = or_second (has_two_places line) (has_one_place_for_many line || (awaits_for_many line || (shares_standard_input line || (writes_over_a_stream line || (checks_awaited line || keeps_under_no_name line))))) fits in
-    let after_one = or_second (has_one_place_for_many line) (awaits_for_many line || (shares_standard_input line || (writes_over_a_stream line || (checks_awaited line || keeps_under_no_name line)))) after_two in
-    let after_awaits = or_second (awaits_for_many line) (shares_standard_input line || (writes_over_a_stream line || (checks_awaited line || keeps_under_no_name line))) after_one in
-    let shares = or_first (shares_standard_input line) (writes_over_a_stream line || (checks_awaited line || keeps_under_no_name line)) after_awaits in
+    let after_two = or_second (has_two_places line) (has_one_place_for_many line || (awaits_for_many line || (shares_standard_input line || (writes_over_a_stream line || (checks_awaited line || (keeps_under_no_name line || has_wrong_session line)))))) fits in
+    let after_one = or_second (has_one_place_for_many line) (awaits_for_many line || (shares_standard_input line || (writes_over_a_stream line || (checks_awaited line || (keeps_under_no_name line || has_wrong_session line))))) after_two in
+    let after_awaits = or_second (awaits_for_many line) (shares_standard_input line || (writes_over_a_stream line || (checks_awaited line || (keeps_under_no_name line || has_wrong_session line)))) after_one in
+    let shares = or_first (shares_standard_input line) (writes_over_a_stream line || (checks_awaited line || (keeps_under_no_name line || has_wrong_session line))) after_awaits in
     let none = and_second (are_on_standard_input line.commands) (has_standard_input line) on shares in
     or_first (is_standard_input (string_bytes line.input)) (list_any (λ name. is_standard_input (string_bytes name)) line.more.items) none
 

@@ -5,6 +5,8 @@ pub mod Backups
 pub mod CheckedRuns
 pub mod Runs
 pub mod Seen
+pub mod SessionLines
+pub mod Sessions
 pub mod Paging
 pub mod Run
 pub mod Sources

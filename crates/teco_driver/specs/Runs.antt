@@ -1,6 +1,6 @@
 -- The runs of the program: over one input by commands as they come, or over each input by commands that are had at once.
 use Rattle.teco_io.specs.declared.source.Source.{Ghosts as SourceView}
-use Rattle.std.specs.Prelude.{◌≡◌, ◌⊎◌, ℕ, List, [], ◌∷◌, codes, map, true, false}
+use Rattle.std.specs.Prelude.{◌≡◌, ◌⊎◌, ℕ, List, [], ◌∷◌, codes, is_some, map, true, false}
 use Rattle.std.specs.String.{string_bytes}
 use Rattle.teco_io.specs.Terminal.{Screen}
 use Rattle.teco_cli.specs.declared.line.Commands.{Commands}
@@ -12,7 +12,9 @@ use Rattle.teco_driver.specs.Library.{FindsFiles}
 use Rattle.teco_driver.specs.Lines.{worst}
 use Rattle.teco_driver.specs.declared.giving.Feed.{Feed}
 use Rattle.teco_driver.specs.declared.host.Host.{Host}
+use Rattle.teco_driver.specs.declared.keeping.SessionEnd.{SessionEnd}
 use Rattle.teco_driver.specs.Run.{Concludes}
+use Rattle.teco_driver.specs.Sessions.{EditsKeptByBytes, EditsKeptGiven, EditsKeptWanted, LinkKept}
 use Rattle.teco_driver.specs.Given.{EditsBy, EditsByBytes, EditsGiven, HostView, IsIdle, is_streamed}
 use Rattle.teco_fs.specs.Console.{console}
 use Rattle.teco_fs.specs.Refusing.{Refuses, Tells}
@@ -21,14 +23,6 @@ use Rattle.teco_serve.specs.Ending.{said}
 use Rattle.teco_serve.specs.declared.fate.Fate.{Fate}
 use Rattle.teco_driver.specs.declared.sources.CommandsFault.{CommandsFault}
 use Rattle.teco_driver.specs.Sources.{Declines, IsGivenBy, LacksCommands}
-
--- A line of one input, whose commands come as they are wanted: it is run over, and that is told.
-pub record RunsOverOne {D I S A T E : Type 0} (view : HostView D I S T) (errors : E → Screen) (line : Line)
-    (old new : Host S A T D) (told telling : E) (status : ℕ) : Type 0 where
-  pub streamed : is_streamed line ≡ true
-  pub fate : Fate
-  pub run : EditsBy view line (string_bytes line.input) line.commands old new fate
-  pub end : Concludes line (string_bytes line.input) fate (errors told) (errors telling) status
 
 -- One of some runs: what it did, how it ended, and what was told of that. `W` is all that a run changes.
 pub record Link {W : Type 0} (edits : List ℕ → W → W → Fate → Type 0)
@@ -47,19 +41,40 @@ Chain {W} link (input ∷ inputs) old new statuses = (mid : W) × (status : ℕ)
 abbrev pub inputs_of : Line → List (List ℕ)
 inputs_of line = map string_bytes (line.input ∷ line.more.items)
 
+-- A run over an input, and what is told of it. If the line names a file for its session, the session is kept there.
+abbrev pub LinkBy : {D S A T E : Type 0} → (List ℕ → Host S A T D → Host S A T D → Fate → Type 0)
+    → (List ℕ → Host S A T D → Host S A T D → E → E → SessionEnd → Type 0) → (E → Screen) → Line → List ℕ
+    → Host S A T D × E → Host S A T D × E → ℕ → Type 0
+LinkBy {D} {S} {A} {T} {E} edits keeps errors line input old new status = elim (is_some line.session) [
+  | false ↦ Link {W = Host S A T D × E} (λ input old new fate. edits input old.0 new.0 fate)
+      (λ input fate old new status. Concludes line input fate (errors old.1) (errors new.1) status) input old new status
+  | true ↦ LinkKept {W = Host S A T D × E} (λ input old new between end. keeps input old.0 new.0 old.1 between end) (λ w. w.1)
+      errors line input old new status
+]
+
 -- An input is run over by these bytes as commands, and that is told.
 abbrev pub LinkOver : {D I S A T E : Type 0} → HostView D I S T → (E → Screen) → Line → List ℕ → List ℕ
     → Host S A T D × E → Host S A T D × E → ℕ → Type 0
-LinkOver {D} {I} {S} {A} {T} {E} view errors line bytes = Link {W = Host S A T D × E}
-    (λ input old new fate. EditsByBytes view line input bytes old.0 new.0 fate)
-    (λ input fate old new status. Concludes line input fate (errors old.1) (errors new.1) status)
+LinkOver view errors line bytes = LinkBy (λ input old new fate. EditsByBytes view line input bytes old new fate)
+    (λ input old new told telling end. EditsKeptByBytes view errors line input bytes old new told telling end) errors line
 
 -- A run over an input by the commands that come from there, and it is told.
 abbrev pub LinkGiven : {D I S A T E : Type 0} → HostView D I S T → (E → Screen) → Line → Feed → List ℕ
     → Host S A T D × E → Host S A T D × E → ℕ → Type 0
-LinkGiven {D} {I} {S} {A} {T} {E} view errors line feed = Link {W = Host S A T D × E}
-    (λ input old new fate. EditsGiven view line feed input old.0 new.0 fate)
-    (λ input fate old new status. Concludes line input fate (errors old.1) (errors new.1) status)
+LinkGiven view errors line feed = LinkBy (λ input old new fate. EditsGiven view line feed input old new fate)
+    (λ input old new told telling end. EditsKeptGiven view errors line feed input old new told telling end) errors line
+
+-- A run over an input by these commands, which come as they are wanted, and it is told.
+abbrev pub LinkWanted : {D I S A T E : Type 0} → HostView D I S T → (E → Screen) → Line → List ℕ
+    → Host S A T D × E → Host S A T D × E → ℕ → Type 0
+LinkWanted view errors line = LinkBy (λ input old new fate. EditsBy view line input line.commands old new fate)
+    (λ input old new told telling end. EditsKeptWanted view errors line line.commands input old new told telling end) errors line
+
+-- A line of one input, whose commands come as they are wanted: it is run over, and that is told.
+pub record RunsOverOne {D I S A T E : Type 0} (view : HostView D I S T) (errors : E → Screen) (line : Line)
+    (old new : Host S A T D) (told telling : E) (status : ℕ) : Type 0 where
+  pub streamed : is_streamed line ≡ true
+  pub run : LinkWanted view errors line (string_bytes line.input) (old, told) (new, telling) status
 
 -- Each of these inputs is run over in order, by these bytes as commands, and that is told. The status is the worst.
 pub record RunsInOrder {D I S A T E : Type 0} (view : HostView D I S T) (errors : E → Screen) (line : Line)

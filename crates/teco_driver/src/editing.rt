@@ -174,9 +174,9 @@ fn put_in_file<D: Disk>(
 
 /// What is made of an input that was read: a session over it, and the name of its output.
 #[derive(Drop)]
-struct Work {
-    session: Session,
-    to: String,
+pub struct Work {
+    pub session: Session,
+    pub to: String,
 }
 
 /// Makes a session over an input, with pages and values by the line and so many strings kept, and the name of its output.
@@ -226,7 +226,7 @@ fn limit_of(line: &Line, length: usize) -> u64
 }
 
 /// How the line has its commands served over an input of so many bytes.
-fn settings_of(line: &Line, length: usize) -> Settings
+pub fn settings_of(line: &Line, length: usize) -> Settings
     requires { length ≤ FILE_LIMIT }
     ensures bounds { result.bounds ≡ bounds_of line.now length }
     ensures manner { result.manner ≡ manner_of line.now }
@@ -244,7 +244,7 @@ fn settings_of(line: &Line, length: usize) -> Settings
 }
 
 /// What is done after a serving: after an exit the output is written to where the line says.
-fn finish<S: Source, A: Alarm, T: Terminal, D: Disk>(
+pub fn finish<S: Source, A: Alarm, T: Terminal, D: Disk>(
     alloc: Global,
     line: &Line,
     work: &Work,
@@ -280,7 +280,7 @@ fn finish<S: Source, A: Alarm, T: Terminal, D: Disk>(
 }
 
 /// Gives up a session that is over.
-fn leave(line: &Line, session: Session) {
+pub fn leave(line: &Line, session: Session) {
     if line.more.is_empty() {
         // The process ends next, and the system takes back at once what the session would free change by change.
         let _kept = ManuallyDrop::new(session);

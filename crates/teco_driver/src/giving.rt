@@ -14,6 +14,7 @@ use crate::concluding::conclude;
 use crate::editing::{depth_of, depth_said, edit_by, edit_by_stream};
 use crate::fates::no_commands;
 use crate::host::Host;
+use crate::keeping::keep_given;
 use crate::word_source::WordSource;
 use std::alloc::Global;
 use teco_cli::{Commands, Line, is_standard_input};
@@ -73,6 +74,9 @@ pub fn edit_given<S: Source, A: Alarm, T: Terminal, E: Terminal, L: Listens, D: 
     ensures { let view = host_view (disk_seen D.Disk D.Input.Source) S.Source T.screen (HasRung A.answered) in
         LinkGiven view E.screen line.now feed.entry name.now (host.old, errors.old) (host.new, errors.new) result }
 {
+    if line.session.is_some() {
+        return keep_given(alloc, line, name, feed, host, errors, listener);
+    }
     let fate = match feed {
         Feed::Stream => edit_by_stream(alloc, line, name, host, listener),
         Feed::File(file) => match host.disk.open(file) {

@@ -12,6 +12,7 @@ mod io;
 mod journal;
 mod laws;
 mod line_commands;
+mod recorder;
 mod replay;
 pub(crate) mod rows;
 pub(crate) mod scan;

@@ -2,7 +2,7 @@
 ghost use Rattle.std.specs.Prelude.{◌≡◌, is_some};
 ghost use Rattle.std.specs.List.{list_any};
 ghost use Rattle.std.specs.String.{string_bytes};
-ghost use Rattle.teco_cli.specs.Conflict.{are_awaited as awaited, are_on_standard_input as on_standard_input, has_conflict, has_more as many, has_slash as has_a_slash, has_standard_input as on_a_stream, is_suffix as may_follow, keeps_under_no_name as under_no_name};
+ghost use Rattle.teco_cli.specs.Conflict.{are_awaited as awaited, are_on_pages as on_pages, are_on_standard_input as on_standard_input, has_conflict, has_more as many, has_slash as has_a_slash, has_wrong_session as wrong_session, is_edited as edited, is_unfit_for_session as unfit_for_session, has_standard_input as on_a_stream, is_suffix as may_follow, keeps_under_no_name as under_no_name};
 ghost use Rattle.teco_cli.specs.StreamNames.{is_standard_input as names_standard_input};
 
 use super::{Commands, Line};
@@ -64,6 +64,46 @@ fn keeps_under_no_name(line: &Line) -> bool
     }
 }
 
+/// Whether its strings are run on every page.
+fn are_on_pages(commands: &Commands) -> bool
+    ensures { result ≡ on_pages commands.now }
+{
+    matches!(commands, Commands::Pages(_))
+}
+
+/// Whether the line has no single INPUT as it is read, or runs no commands as they are.
+fn is_unfit_for_session(line: &Line) -> bool
+    ensures { result ≡ unfit_for_session line.now }
+{
+    line.check || !line.more.is_empty() || are_on_pages(&line.commands) || !line.values.is_empty()
+}
+
+/// Whether this is the input, or where the output goes.
+fn is_edited(line: &Line, file: &str) -> bool
+    ensures { result ≡ edited line.now file.now }
+{
+    let is_output = match &line.output {
+        Some(output) => output.as_str() == file,
+        None => false,
+    };
+    line.input.as_str() == file || is_output
+}
+
+/// What is told of a line whose session can't be kept where it says, if it can't.
+fn session_conflict_in(line: &Line) -> Option<&'static str>
+    ensures { is_some result ≡ wrong_session line.now }
+{
+    match &line.session {
+        Some(_) if is_unfit_for_session(line) => Some(
+            "the argument '--session <FILE>' cannot be used with '--check', '--pages <STRINGS>', '--assign <A=TEXT>' or more than one INPUT",
+        ),
+        Some(file) if is_edited(line, file.as_str()) => {
+            Some("the FILE of '--session <FILE>' cannot be the INPUT or the output")
+        }
+        _ => None,
+    }
+}
+
 /// What is told of a line with a conflict, if it has one.
 pub(crate) fn conflict_in(line: &Line) -> Option<&'static str>
     ensures { is_some result ≡ has_conflict line.now }
@@ -89,6 +129,6 @@ pub(crate) fn conflict_in(line: &Line) -> Option<&'static str>
     } else if keeps_under_no_name(line) {
         Some("the suffix of '--in-place=<SUFFIX>' cannot be empty or have a '/'")
     } else {
-        None
+        session_conflict_in(line)
     }
 }

@@ -8,7 +8,7 @@ use crate::{MOST_STEPS, OptionRow, Takes};
 use teco_core::DEPTH_LIMIT;
 
 /// Every option, in the order of the help, and then the operands.
-static OPTIONS: [OptionRow; 18] = [
+static OPTIONS: [OptionRow; 19] = [
     OptionRow {
         name: "execute",
         short: Some('e'),
@@ -64,6 +64,13 @@ static OPTIONS: [OptionRow; 18] = [
         takes: Takes::Text,
         value: "SUFFIX",
         help: "The same, and keeps the old file as INPUT with SUFFIX after its name; --in-place=SUFFIX says so too, and -i.bak",
+    },
+    OptionRow {
+        name: "session",
+        short: None,
+        takes: Takes::Text,
+        value: "FILE",
+        help: "Keeps what is done in FILE, so that a later run goes on from there, with all that can be undone",
     },
     OptionRow {
         name: "check",

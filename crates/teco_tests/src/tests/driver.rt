@@ -1,6 +1,6 @@
 //! Of teco_driver: its parts, and runs of the whole program over files in memory.
 use super::bytes::{Screen, are_there, first_of, is, is_typed, joined, screen_of, wide_screen};
-use super::line_commands::{checked, explained, manners, shown, sources, values};
+use super::line_commands::{checked, explained, kept, manners, shown, sources, values};
 use super::rows::{Cells, Rule, all_hold, cells_of, halves_at, number_or};
 use super::tecol::runs;
 use std::alloc::Global;
@@ -146,7 +146,7 @@ fn files_after(alloc: Global, disk: MemoryDisk, cells: &Cells) -> Option<MemoryD
 /// The call that is refused, by the first letter of what a row says: that which reads, makes, writes or syncs, keeps an old file, puts a draft
 /// in its place, or that and the removal of the draft; that a file has changed; that an owner can't be kept, or what is written late; that a
 /// file is held by another run; that which cuts one.
-fn refused_of(said: &str) -> RefusedCall {
+pub(super) fn refused_of(said: &str) -> RefusedCall {
     match first_of(said) {
         b'r' => RefusedCall::Read,
         b'm' => RefusedCall::Make,
@@ -266,6 +266,7 @@ fn table(at: usize) -> &'static str {
         6 => shown::ROWS,
         7 => runs::ROWS,
         8 => values::ROWS,
+        9 => kept::ROWS,
         _ => "",
     }
 }

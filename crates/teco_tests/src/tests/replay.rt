@@ -9,7 +9,7 @@ use std::alloc::Global;
 use std::test::*;
 use teco_core::{DEPTH_LIMIT, FILE_LIMIT};
 use teco_journal::{CHECK_LENGTH, Ending, Record, push_record, read_journal};
-use teco_replay::{ReplayFault, resume};
+use teco_replay::{ReplayFault, records_of, resume};
 use teco_session::{Answer, Session};
 use teco_store::Desk;
 
@@ -126,14 +126,18 @@ fn look_alike(alloc: Global, one: &Session, two: &Session) -> bool {
     is_seen(alloc, two.editor(), &seen(alloc, one.editor()))
 }
 
-/// Whether they have the same strings, with the same steps, of which as many are undone.
-fn have_same_strings(one: &Session, two: &Session) -> bool {
+/// Whether the other session has the same strings, with the same steps, of which as many are undone, behind so many older ones.
+fn have_same_strings(one: &Session, two: &Session, older: usize) -> bool {
     let strings = one.strings();
-    if strings != two.strings() || one.cursor() != two.cursor() {
+    if two.strings() < older || two.cursor() < older {
+        return false;
+    }
+    if strings != two.strings() - older || one.cursor() != two.cursor() - older {
         return false;
     }
     for i in 0..strings {
-        if one.steps(i) != two.steps(i) || !are(one.string(i), two.string(i)) {
+        let at = i + older;
+        if one.steps(i) != two.steps(at) || !are(one.string(i), two.string(at)) {
             return false;
         }
     }
@@ -158,21 +162,62 @@ fn turn_alike(
     alike
 }
 
-/// Whether all of them is alike: the strings, and each state that can be gone back to or forth.
-fn are_alike(alloc: Global, one: &mut Session, two: &mut Session) -> bool {
+/// Whether all of them is alike: the strings, and each state that can be gone back to or forth. The other one has so many older strings.
+/// Both are as before then.
+fn are_alike(alloc: Global, one: &mut Session, two: &mut Session, older: usize) -> bool {
     let (back, forth) = (one.cursor(), one.strings());
-    have_same_strings(one, two)
+    have_same_strings(one, two, older)
         && look_alike(alloc, one, two)
         && turn_alike(alloc, one, two, false, back)
         && turn_alike(alloc, one, two, true, forth)
+        && turn_alike(alloc, one, two, false, forth - back)
 }
 
 /// Whether the session that lines tell is like this one.
 fn is_resumed(alloc: Global, over: &Over, lines: &[u8], lived: &mut Session) -> bool {
     match resumed(alloc, over, lines, 10_000) {
-        Ok(mut again) => are_alike(alloc, lived, &mut again),
+        Ok(mut again) => are_alike(alloc, lived, &mut again, 0),
         Err(_) => false,
     }
+}
+
+/// What a session needs, as lines, if they are as many as its strings and undos.
+fn needed(alloc: Global, session: &Session) -> Option<Lines> {
+    let Ok(records) = records_of(alloc, session) else {
+        return None;
+    };
+    let mut lines = Lines::new(alloc);
+    let undone = session.strings() - session.cursor();
+    let mut held = records.len() >= undone && records.len() - undone == session.strings();
+    for told in records.as_slice() {
+        held = lines.put(told) && held;
+    }
+    if held { Some(lines) } else { None }
+}
+
+/// Whether what is needed of these lines, of all strings and without a depth, tells a session like this one. With a depth it may have
+/// older strings.
+fn is_pruned(alloc: Global, over: &Over, lines: &[u8], lived: &mut Session) -> bool {
+    let whole = Over {
+        depth: None,
+        ..*over
+    };
+    let Ok(all) = resumed(alloc, &whole, lines, 10_000) else {
+        return false;
+    };
+    let Some(few) = needed(alloc, &all) else {
+        return false;
+    };
+    let Ok(mut again) = resumed(alloc, over, &few.bytes, 10_000) else {
+        return false;
+    };
+    if again.strings() < lived.strings() {
+        return false;
+    }
+    let older = again.strings() - lived.strings();
+    (older == 0 || over.depth.is_some())
+        && few.bytes.len() <= lines.len()
+        && are_alike(alloc, lived, &mut again, older)
 }
 
 /// What is done to a session over this: rows of the table.
@@ -197,6 +242,7 @@ impl Trial for Life<'_> {
             }
         }
         held && is_resumed(alloc, &self.over, &lines.bytes, session)
+            && is_pruned(alloc, &self.over, &lines.bytes, session)
     }
 }
 
@@ -210,11 +256,12 @@ fn sessions_are_resumed(rt: HostRuntime) {
     }
 }
 
-/// Thirty requests that are made: most are strings under limits of 1 to 50.
+/// Thirty requests that are made: most are strings under limits of 1 to 50. What they did is done again whole, or as it is needed.
 #[derive(Clone, Copy)]
 struct MadeLife<'a> {
     over: Over<'a>,
     seed: u32,
+    pruned: bool,
 }
 
 impl Trial for MadeLife<'_> {
@@ -235,25 +282,37 @@ impl Trial for MadeLife<'_> {
                 held = lines.put(&told) && held;
             }
         }
-        held && is_resumed(alloc, &self.over, &lines.bytes, session)
+        let again = if self.pruned {
+            is_pruned(alloc, &self.over, &lines.bytes, session)
+        } else {
+            is_resumed(alloc, &self.over, &lines.bytes, session)
+        };
+        held && again
     }
 }
 
 /// Whether a session that is made of a number is resumed: each third one keeps its last three strings, and each second one has pages of
 /// two lines.
-fn made_life_is_resumed(alloc: Global, seed: u32) -> bool {
+fn made_life_is_resumed(alloc: Global, seed: u32, pruned: bool) -> bool {
     let over = Over {
         input: b"one a\ntwo b c\n\nthree\nfour a b\n\x0cfive\nsix c a\n\x0cseven\n",
         page_lines: if seed % 2 == 0 { 0 } else { 2 },
         depth: if seed % 3 == 0 { Some(3) } else { None },
     };
-    holds_in(alloc, &over, &MadeLife { over, seed })
+    holds_in(alloc, &over, &MadeLife { over, seed, pruned })
 }
 
 #[test]
 fn random_sessions_are_resumed(rt: HostRuntime) {
     for seed in 0..200 {
-        assert!(rt; made_life_is_resumed(rt.alloc(), seed), "{seed}");
+        assert!(rt; made_life_is_resumed(rt.alloc(), seed, false), "{seed}");
+    }
+}
+
+#[test]
+fn random_sessions_are_pruned(rt: HostRuntime) {
+    for seed in 200..240 {
+        assert!(rt; made_life_is_resumed(rt.alloc(), seed, true), "{seed}");
     }
 }
 

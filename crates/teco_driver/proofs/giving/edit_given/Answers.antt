@@ -1,4 +1,4 @@
-use Rattle.std.proofs.Common.{◌≡◌, ℕ, List, arith, inl, inr, refl, sym, subst}
+use Rattle.std.proofs.Common.{◌≡◌, ◌∙◌, ℕ, List, arith, inl, inr, refl, sym, subst}
 use Rattle.teco_cli.specs.StreamNames.{is_standard_input}
 use Rattle.teco_cli.specs.declared.line.Line.{Line}
 use Rattle.teco_driver.specs.Given.{EditsGiven, HostView, host_view}
@@ -28,7 +28,7 @@ returns g c =
     let line = c.args.line.now in
     let name = c.args.name.now in
     let host = c.args.host.now in
-    record {
+    rw (sym c.is_some.ensures ∙ c.if-is_some.false) (record {
       fate = c.match-feed.fate;
       run = elim c.match-feed.branch [
         | in-Stream w ↦ the_same view line name host w.in-Stream.is w.host-is w.fate-is w.edit_by_stream-fate.ensures
@@ -68,4 +68,7 @@ returns g c =
         })
       ];
       end = c.conclude.ensures;
-    }
+    })
+
+pub returns-then-is_some : goal.returns-then-is_some
+returns-then-is_some g c = rw (sym c.is_some.ensures ∙ c.if-is_some.true) c.keep_given.ensures

@@ -22,3 +22,10 @@ run_over-requires g c = record {
   fits = fits_still (disk_seen g.D.Disk g.D.Input.Source) (map string_bytes c.args.library.now) c.args.line c.find_files.new.commands
       c.args.host.now.disk c.find_files.new.disk c.in-Ok.ensures.found c.requires.fits;
 }
+
+pub returns-clause-runs : goal.returns-clause-runs
+returns-clause-runs g c = record {
+  disk = c.find_files.new.disk;
+  kept = c.find_files.ensures.kept;
+  runs = inl (refl, c.no_memory.ensures.status, c.no_memory.ensures.told);
+}

@@ -7,7 +7,7 @@ use Rattle.teco_driver.specs.Checks.{MayRun}
 use Rattle.teco_fs.specs.Seen.{disk_seen}
 use Rattle.teco_driver.specs.Given.{host_view, is_streamed}
 use Rattle.teco_driver.specs.declared.host.Host.{Host}
-use Rattle.teco_driver.proofs.Runs.{as_wanted}
+use Rattle.teco_driver.proofs.Runs.{link_wanted}
 use Rattle.teco_driver.proofs.several.edit_all.Goals as goal
 
 -- a host once commands were read
@@ -18,12 +18,11 @@ pub returns-in-Some-clause-run : goal.returns-in-Some-clause-run
 returns-in-Some-clause-run g c =
     let view = host_view (disk_seen g.D.Disk g.D.Input.Source) g.S.Source g.T.Terminal.screen (HasRung g.A.Stop.answered) in
     let line = c.args.line.now in
-    let link = c.edit_streamed.ensures.run in
+    let old : Host g.row.S.Denot g.row.A.Denot g.row.T.Denot g.row.D.Denot × g.row.E.Denot = (c.args.host.now, c.args.errors.now) in
+    let new : Host g.row.S.Denot g.row.A.Denot g.row.T.Denot g.row.D.Denot × g.row.E.Denot = (c.edit_streamed.new.host, c.edit_streamed.new.errors) in
     inl (record {
       streamed = c.in-Some.ensures.some.0;
-      fate = link.fate;
-      run = as_wanted view line (string_bytes line.input) line.commands c.in-Some.feed c.args.host.now c.edit_streamed.new.host link.fate c.in-Some.ensures.some.1 link.run;
-      end = link.end;
+      run = link_wanted view g.E.Terminal.screen line (string_bytes line.input) c.in-Some.feed old new c.edit_streamed.result c.in-Some.ensures.some.1 c.edit_streamed.ensures.run;
     })
 
 pub returns-in-Err-clause-run : goal.returns-in-Err-clause-run

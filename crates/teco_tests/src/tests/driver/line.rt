@@ -56,9 +56,19 @@ fn keeps_so(line: &Line, cell: &str) -> bool {
     cell.is_empty() || is(suffix_of(line).unwrap_or("none"), cell)
 }
 
+/// Whether a line names this file for its session, where that is said.
+fn has_session(line: &Line, cell: &str) -> bool {
+    let name = match &line.session {
+        Some(name) => name.as_str(),
+        None => "none",
+    };
+    cell.is_empty() || is(name, cell)
+}
+
 fn says(alloc: Global, line: &Line, cells: &Cells) -> bool {
     cells[3].is_empty()
         && keeps_so(line, cells[4])
+        && has_session(line, cells[5])
         && is_told(commands_told(alloc, &line.commands), cells[1])
         && is_told(rest_told(alloc, line), cells[2])
 }
@@ -75,7 +85,7 @@ fn is_refused(fault: &LineFault, status: &str) -> bool {
 #[derive(Clone, Copy)]
 enum Lines {
     /// Where the commands come from, and what else they say, if that is said; or the status with which they are refused; the suffix of a file
-    /// that is kept, if that is said;
+    /// that is kept, and the file of a session, if these are said;
     Say,
     /// or how a run that they ask for ends.
     End,
@@ -195,6 +205,18 @@ const ROWS: &str = "
     teco -o out --in-place=.bak in => => => 3
     teco -e EX$$ -i.bak - => => => 3
     teco -i.bak => => => 3
+    // The file of a session is of one INPUT, and neither that nor the output.
+    teco --session s in => => => => => s
+    teco in -e EX$$ --session=-s => => => => => -s
+    teco in => => => => => none
+    teco --session s --session t in => => => => => t
+    teco --session in in => => => 3
+    teco --session s -o s in => => => 3
+    teco --session s -e EX$$ in more => => => 3
+    teco --session s -p 0K in => => => 3
+    teco --session s -v A=b in => => => 3
+    teco --session s -e EX$$ --check in => => => 3
+    teco --session => => => 3
     // Of a setting that is given again the last one stands; commands are not dropped.
     teco -i -i in => => in [] None [true, false, false, false, false] None None [None, None]
     teco -qq -i --in-place in => => in [] None [true, false, false, false, true] None None [None, None]

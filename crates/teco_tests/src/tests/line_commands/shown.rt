@@ -15,6 +15,7 @@ pub(crate) const ROWS: &str = "
         -o, --output <FILE>      Where the output goes after an exit, - for standard output; without it INPUT.out, or - if INPUT is - or with --pages\n  \
         -i, --in-place           Writes the output over each INPUT\n      \
         --backup <SUFFIX>    The same, and keeps the old file as INPUT with SUFFIX after its name; --in-place=SUFFIX says so too, and -i.bak\n      \
+        --session <FILE>     Keeps what is done in FILE, so that a later run goes on from there, with all that can be undone\n      \
         --check              Prints the faults of the commands, with their places; runs nothing, and reads no INPUT\n      \
         --page-lines <N>     The most lines of a page, at most 1000000000; without it form feeds end pages\n      \
         --limit <N>          The most steps of each command string, at most 1000000000000; without it 1000000, and 1000 for each byte of INPUT if an option gives the commands\n      \
@@ -44,4 +45,6 @@ pub(crate) const ROWS: &str = "
     - teco -e EX$$ -i in /dev/stdin => => => error: the argument '--in-place' cannot be used with an INPUT that is standard input\n\nUsage: teco [OPTIONS] <INPUT>...\n\nFor more information, try '--help'.\n => => 3 => in == hi\n
     - teco -e EX$$ --in-place= in => => => error: the suffix of '--in-place=<SUFFIX>' cannot be empty or have a '/'\n\nUsage: teco [OPTIONS] <INPUT>...\n\nFor more information, try '--help'.\n => => 3 => in == hi\n
     - teco --check in => => => error: the argument '--check' needs commands from '--execute <STRINGS>', '--pages <STRINGS>', '--file <FILE>' or '--bytes <FILE>'\n\nUsage: teco [OPTIONS] <INPUT>...\n\nFor more information, try '--help'.\n => => 3 => in == hi\n
+    - teco --session s -p 0K in => => => error: the argument '--session <FILE>' cannot be used with '--check', '--pages <STRINGS>', '--assign <A=TEXT>' or more than one INPUT\n\nUsage: teco [OPTIONS] <INPUT>...\n\nFor more information, try '--help'.\n => => 3 => in == hi\n
+    - teco --session in in => => => error: the FILE of '--session <FILE>' cannot be the INPUT or the output\n\nUsage: teco [OPTIONS] <INPUT>...\n\nFor more information, try '--help'.\n => => 3 => in == hi\n
     - teco => => => error: the following required arguments were not provided:\n  <INPUT>\n\nUsage: teco [OPTIONS] <INPUT>...\n\nFor more information, try '--help'.\n => => 3 => in == hi\n";

@@ -1,0 +1,213 @@
+-- A run over an input whose session is kept, from what its parts have done.
+use Rattle.teco_io.specs.declared.source.Source.{Ghosts as SourceView}
+use Rattle.std.proofs.Common.{◌≡◌, ◌⊎◌, ◌∙◌, inl, inr, ℕ, List, Bool, true, false, refl, sym, subst, ap, Result, Ok, Err, String, Global, codes, IfOk, OnErr}
+use Rattle.std.specs.String.{string_bytes}
+use Rattle.teco_cli.specs.StreamNames.{is_standard_input, is_standard_output}
+use Rattle.teco_cli.specs.Options.{suffix_of}
+use Rattle.teco_cli.specs.declared.line.Line.{Line}
+use Rattle.teco_driver.specs.Given.{HostView}
+use Rattle.teco_driver.specs.Run.{FinishesIn, bounds_of, input_from, manner_of, named_input, replaces_input, standard_input}
+use Rattle.teco_driver.specs.Seen.{CommandsSeen, InputSeen}
+use Rattle.teco_driver.specs.SessionLines.{TellsOrLacks}
+use Rattle.teco_driver.specs.Sessions.{EditsKept, FinishesKept, HasNoInput, OpensOver, RunsKept, RunsSession, StaysShut, StaysUnserved, as_state}
+use Rattle.teco_driver.specs.Runs.{with_disk}
+use Rattle.teco_driver.specs.declared.host.Host.{Host}
+use Rattle.teco_driver.proofs.Doings.{irregular_from, is_input_from, keeps_after, lacks_from}
+use Rattle.teco_fs.specs.Seen.{KeepsDisk}
+use Rattle.teco_serve.specs.declared.fate.Fate.{Fate}
+use Rattle.teco_driver.specs.declared.keeping.SessionEnd.{SessionEnd}
+use Rattle.teco_driver.specs.declared.keeping.SessionEnd.TheVariants.{Closed, Ended, Broken}
+use Rattle.teco_fs.specs.Refusing.{Tells}
+use Rattle.teco_fs.specs.State.{DiskState}
+use Rattle.teco_io.specs.Terminal.{Screen, Shows}
+use Rattle.teco_journal.specs.Heads.{Beginning}
+use Rattle.teco_recorder.specs.Opening.{OpenSession, Opens, StaysClosed}
+use Rattle.teco_recorder.specs.declared.opening.Asked.{Asked}
+use Rattle.teco_recorder.specs.Recording.{IsRecorded, KeptFile, recording}
+use Rattle.teco_serve.specs.Ending.{output_of, said}
+use Rattle.teco_serve.specs.Exchange.{allowance}
+use Rattle.teco_serve.specs.Serving.{Serves}
+use Rattle.teco_serve.specs.declared.served.Served.{Served}
+use Rattle.teco_session.specs.History.{History, present}
+
+-- a disk without what no recorder's rule speaks of
+abbrev pub bare : DiskState → DiskState
+bare s = record {
+  files = s.files;
+  streams = s.streams;
+  left = s.left;
+  failures = 0;
+  gave = s.gave;
+  kept = λ name. ⊥;
+  unremoved = λ name. ⊥;
+  changed = s.changed;
+  unkept = s.unkept;
+}
+
+pub opens_bare : (start : Beginning) (asked : Asked) (name : List ℕ) (old new : DiskState) (is : OpenSession)
+    → Opens start asked name old new is → Opens start asked name (bare old) (bare new) is
+opens_bare start asked name old new is o = record {
+  beginning = o.beginning;
+  events = o.events;
+  found = elim o.found [
+    | inl begun ↦ inl (begun.0, begun.1, begun.2, record { before = begun.3.before; moments = begun.3.moments })
+    | inr gone ↦ inr (gone.0, record { had = gone.1.had; lines = gone.1.lines; before = gone.1.before; moments = gone.1.moments })
+  ];
+  after = o.after;
+  streams = o.streams;
+  file_is = o.file_is;
+  history_is = o.history_is;
+  records_are = o.records_are;
+  input = o.input;
+}
+
+pub closed_bare : (start : Beginning) (name : List ℕ) (old new : DiskState) → StaysClosed start name old new → StaysClosed start name (bare old) (bare new)
+closed_bare start name old new c = record { kept = c.kept; moments = c.moments; streams = c.streams }
+
+pub recorded_bare : (old new : DiskState) (file left : KeptFile) (was is : Bool) (first last : History)
+    → IsRecorded (recording old file was) (recording new left is) first last
+    → IsRecorded (recording (bare old) file was) (recording (bare new) left is) first last
+recorded_bare old new file left was is first last r = record {
+  events = r.events;
+  leads = r.leads;
+  happen = r.happen;
+  lines = record {
+    rests = λ broken. let x = r.lines.rests broken in record { files = x.files; streams = x.streams; moments = x.moments; file = x.file; broken = x.broken };
+    extends = λ sound. let x = r.lines.extends sound in record { name = x.name; whole = x.whole; front = x.front; moments = x.moments; streams = x.streams };
+    check = r.lines.check;
+    sound = r.lines.sound;
+  };
+}
+
+-- A text that was made, or not, is told, or that there was no memory.
+pub tells_either : {F : Type 0} (old new : Screen) (text : List ℕ) (made : Result (String Global) F)
+    → IfOk made (λ lines. string_bytes lines ≡ text) → IfOk made (λ lines. Tells old new (string_bytes lines))
+    → OnErr made (Tells old new (said (codes "no memory"))) → TellsOrLacks old new text
+tells_either old new text (Ok lines) is told lacks = inl (subst (λ t. Tells old new t) is told)
+tells_either old new text (Err fault) is told lacks = inr lacks
+
+-- An input that is a file is the same, whatever standard input has.
+file_still : (b : Bool) (one other file : InputSeen) (bytes : List ℕ) → b ≡ false → (input_from b one file).is_input bytes → (input_from b other file).is_input bytes
+file_still true one other file bytes apart is = absurd (let t : true ≡ false = apart in cc)
+file_still false one other file bytes apart is = is
+
+module _ {D I S A T E : Type 0} (view : HostView D I S T) (errors : E → Screen) (line : Line) (name : List ℕ) where
+  pub opens_apart : (old : Host S A T D) (one other : S) (disk : D) (told telling : E) (length_read : ℕ) (is : OpenSession)
+      → is_standard_input name ≡ false
+      → OpensOver view errors line name old one disk told telling length_read is
+      → OpensOver view errors line name old other disk told telling length_read is
+  opens_apart old one other disk told telling length_read is apart o = record {
+    read = o.read;
+    input = o.input;
+    keeps = o.keeps;
+    input_is = file_still (is_standard_input name) (standard_input view.stream old.commands one) (standard_input view.stream old.commands other)
+        (named_input (view.disk old.disk) (view.disk o.read) name) o.input apart o.input_is;
+    length_is = o.length_is;
+    opens = o.opens;
+    tells = o.tells;
+  }
+
+  -- from the opening, the serving and the end
+  pub runs_session : (given : CommandsSeen) (old new : Host S A T D) (told telling : E) (opened served : D) (term : T) (length_read : ℕ) (is : OpenSession) (left : KeptFile)
+      (last : History) (ended : Served) (is_broken : Bool) (to : List ℕ) (end : SessionEnd)
+      → OpensOver view errors line name old new.commands opened told telling length_read is
+      → Serves (allowance (bounds_of line length_read) given.asked) (manner_of line) given.gave given.ended (Shows (view.screen old.terminal) (view.screen term)) is.history last ended
+      → IsRecorded (recording (as_state (view.disk opened)) is.file false) (recording (as_state (view.disk served)) left is_broken) is.history last
+      → to ≡ output_of line name
+      → FinishesKept line to ended (present last).output is_broken (view.disk served) (view.disk new.disk) view.screen term new.terminal end
+      → RunsSession view errors line name given old new told telling end
+  runs_session given old new told telling opened served term length_read is left last ended is_broken to (Closed fault) opens serves recorded named finishes = absurd finishes
+  runs_session given old new told telling opened served term length_read is left last ended is_broken to (Ended end) opens serves recorded named finishes = record {
+    opened = opened;
+    length_read = length_read;
+    is = is;
+    opens = opens;
+    served = served;
+    term = term;
+    left = left;
+    last = last;
+    ended = ended;
+    serves = serves;
+    recorded = subst (λ (b : Bool). IsRecorded (recording (as_state (view.disk opened)) is.file false) (recording (as_state (view.disk served)) left b) is.history last) finishes.0 recorded;
+    finishes = subst (λ (place : List ℕ). FinishesIn (is_standard_output place) ended (present last).output (replaces_input line) (suffix_of line) place (view.disk served) (view.disk new.disk) view.screen term new.terminal end) named finishes.1;
+  }
+  runs_session given old new told telling opened served term length_read is left last ended is_broken to (Broken reason end) opens serves recorded named finishes = record {
+    opened = opened;
+    length_read = length_read;
+    is = is;
+    opens = opens;
+    served = served;
+    term = term;
+    left = left;
+    last = last;
+    ended = ended;
+    serves = serves;
+    recorded = subst (λ (b : Bool). IsRecorded (recording (as_state (view.disk opened)) is.file false) (recording (as_state (view.disk served)) left b) is.history last) finishes.0 recorded;
+    finishes = subst (λ (place : List ℕ). FinishesIn (is_standard_output place) ended (present last).output (replaces_input line) (suffix_of line) place (view.disk served) (view.disk new.disk) view.screen term new.terminal end) named finishes.1;
+  }
+
+-- The commands were opened on the disk before: a run from there on is one from before.
+module _ {D I S A T E : Type 0} (view : HostView D I S T) (errors : E → Screen) (line : Line) (name : List ℕ) (old : Host S A T D) (mid : D)
+    (kept : KeepsDisk (view.disk old.disk) (view.disk mid)) where
+  input_from_mid : (commands : S) (disk : D) (bytes : List ℕ)
+      → (input_from (is_standard_input name) (standard_input view.stream old.commands commands) (named_input (view.disk mid) (view.disk disk) name)).is_input bytes
+      → (input_from (is_standard_input name) (standard_input view.stream old.commands commands) (named_input (view.disk old.disk) (view.disk disk) name)).is_input bytes
+  input_from_mid commands disk bytes is =
+      is_input_from (view.disk old.disk) (view.disk mid) (view.disk disk) kept (standard_input view.stream old.commands commands) name (is_standard_input name) bytes is
+
+  unserved_from : (new : Host S A T D) (end : SessionEnd) → StaysUnserved view line name (with_disk old mid) new end → StaysUnserved view line name old new end
+  unserved_from new (Closed fault) s = record {
+    read = s.read;
+    input = s.input;
+    keeps = keeps_after kept s.keeps;
+    input_is = input_from_mid new.commands s.read s.input s.input_is;
+    closed = s.closed;
+    still = s.still;
+  }
+  unserved_from new (Ended end) s = record {
+    lacks = elim s.lacks [
+      | inl lacks ↦ inl (elim lacks [
+        | inl l ↦ inl (lacks_from (view.disk old.disk) (view.disk mid) (view.disk new.disk) kept (standard_input view.stream old.commands new.commands) name (is_standard_input name) end l)
+        | inr l ↦ inr (l.0, l.1, irregular_from (view.disk old.disk) (view.disk mid) (view.disk new.disk) kept (standard_input view.stream old.commands new.commands) name (is_standard_input name) l.2)
+      ])
+      | inr memory ↦ inr memory
+    ];
+    idle = (s.idle.0, keeps_after kept s.idle.1);
+  }
+  unserved_from new (Broken reason end) s = absurd s
+
+  kept_from : (given : CommandsSeen) (new : Host S A T D) (told telling : E) (is_broken : Bool) (end : Fate)
+      → RunsKept view errors line name given (with_disk old mid) new told telling is_broken end → RunsKept view errors line name given old new told telling is_broken end
+  kept_from given new told telling is_broken end r = record {
+    opened = r.opened;
+    length_read = r.length_read;
+    is = r.is;
+    opens = record {
+      read = r.opens.read;
+      input = r.opens.input;
+      keeps = keeps_after kept r.opens.keeps;
+      input_is = input_from_mid new.commands r.opens.read r.opens.input r.opens.input_is;
+      length_is = r.opens.length_is;
+      opens = r.opens.opens;
+      tells = r.opens.tells;
+    };
+    served = r.served;
+    term = r.term;
+    left = r.left;
+    last = r.last;
+    ended = r.ended;
+    serves = r.serves;
+    recorded = r.recorded;
+    finishes = r.finishes;
+  }
+
+  runs_from : (given : CommandsSeen) (new : Host S A T D) (told telling : E) (end : SessionEnd)
+      → RunsSession view errors line name given (with_disk old mid) new told telling end → RunsSession view errors line name given old new told telling end
+  runs_from given new told telling (Closed fault) r = absurd r
+  runs_from given new told telling (Ended end) r = kept_from given new told telling false end r
+  runs_from given new told telling (Broken reason end) r = kept_from given new told telling true end r
+
+  pub edits_kept_from : (given : CommandsSeen) (new : Host S A T D) (told telling : E) (end : SessionEnd)
+      → EditsKept view errors line name given (with_disk old mid) new told telling end → EditsKept view errors line name given old new told telling end
+  edits_kept_from given new told telling end (inl s) = inl (unserved_from new end s.0, s.1, s.2)
+  edits_kept_from given new told telling end (inr r) = inr (runs_from given new told telling end r)

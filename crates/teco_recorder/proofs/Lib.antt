@@ -1,0 +1,9 @@
+pub mod Adding
+pub mod Beginnings
+pub mod Files
+pub mod Hearings
+pub mod LastOutputs
+pub mod Lengths
+pub mod Lines
+pub mod Openings
+pub mod Outcomes

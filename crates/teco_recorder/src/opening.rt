@@ -1,0 +1,216 @@
+//! A session's file is begun, or gone on with.
+ghost use Rattle.std.specs.Prelude.{◌≡◌, ◌≤◌, ◌⊎◌, IfOk, None, OnErr, OnOk, Some, length, true};
+ghost use Rattle.std.specs.Option.{ForSome};
+ghost use Rattle.teco_core.specs.declared.limits.TheConstants.{DEPTH_LIMIT, FILE_LIMIT};
+ghost use Rattle.teco_fs.specs.Disk.{CutsTo, Same};
+ghost use Rattle.teco_fs.specs.State.{FilesChange, FilesPass};
+ghost use Rattle.teco_journal.specs.Events.{events_of};
+ghost use Rattle.teco_journal.specs.Heads.{first_check, beginning_in, whole_head};
+ghost use Rattle.teco_recorder.specs.Opening.{IsAsked, IsExpected, IsGood, Opens, StaysClosed, first_history};
+ghost use Rattle.teco_recorder.specs.Recording.{HasIfThere, IsBegun};
+ghost use Rattle.teco_replay.specs.Told.{after_events};
+ghost use Rattle.teco_session.specs.Kept.{history_of};
+
+use crate::fault::{OpenFault, no_file};
+use crate::open_file::OpenFile;
+use crate::outputs::is_last_output;
+use std::alloc::Global;
+use teco_core::DEPTH_LIMIT;
+use teco_fs::{Disk, read_whole};
+use teco_journal::{
+    Ending, HeadFault, Record, SessionFault, SessionFile, Start, new_head, read_session,
+};
+use teco_replay::{Quiet, ReplayFault, resume};
+use teco_session::Session;
+
+/// What a line asks of a session that goes on: it has to be what the file was begun with.
+#[derive(Clone, Copy)]
+pub struct Asked {
+    pub lines: Option<usize>,
+    pub depth: Option<usize>,
+}
+
+/// A session whose file is open.
+#[derive(Drop)]
+pub struct Opened<D: Disk> {
+    pub session: Session,
+    pub file: OpenFile<D>,
+    /// How many records were done again.
+    pub records: usize,
+    /// How many bytes of a line that has no end were cut off behind them.
+    pub torn: usize,
+}
+
+/// Begins the file, over what it has.
+fn begin<D: Disk>(
+    alloc: Global,
+    start: Start<'_>,
+    file: OpenFile<D>,
+    disk: &mut D,
+) -> Result<Opened<D>, OpenFault>
+    requires input { length start.input.now ≤ FILE_LIMIT }
+    requires depth { ForSome start.depth (λ depth. depth ≤ DEPTH_LIMIT) }
+    ensures file { IfOk result (λ opened. opened.file ≡ record { name = file.name; check = first_check (beginning_in start.entry) }) }
+    ensures history { IfOk result (λ opened. history_of opened.session ≡ first_history (beginning_in start.entry)) }
+    ensures records { IfOk result (λ opened. opened.records ≡ 0) }
+    ensures torn { IfOk result (λ opened. opened.torn ≡ 0) }
+    ensures ok { OnOk result (FilesChange (D.seen disk.old) (D.seen disk.new)
+        (HasIfThere file.name (whole_head (beginning_in start.entry)))) }
+    ensures err { OnErr result (FilesChange (D.seen disk.old) (D.seen disk.new)
+        (IsBegun file.name (whole_head (beginning_in start.entry)))) }
+    ensures moments { FilesPass (D.seen disk.old) (D.seen disk.new) (IsBegun file.name (whole_head (beginning_in start.entry))) }
+    ensures streams { (D.seen disk.new).streams ≡ (D.seen disk.old).streams }
+{
+    let mut file = file;
+    let head = new_head(alloc, start)?;
+    let input = Vec::from_slice(alloc, start.input)?;
+    let session = Session::with_pages(input, start.lines, start.depth)?;
+    match file.begin(disk, &head) {
+        Ok(()) => Ok(Opened {
+            session,
+            file,
+            records: 0,
+            torn: 0,
+        }),
+        Err(error) => Err(no_file(error)),
+    }
+}
+
+/// Whether a number is the one that is asked for, if one is.
+fn is_one_asked(number: Option<usize>, asked: Option<usize>) -> bool
+    ensures { result ≡ true → ForSome asked (λ asked. number ≡ Some asked) }
+{
+    asked.is_none() || number == asked
+}
+
+/// Whether a session that began so is what is asked for.
+fn is_asked(start: Start<'_>, asked: Asked) -> bool
+    ensures { result ≡ true → IsAsked asked (beginning_in start.entry) }
+{
+    is_one_asked(Some(start.lines), asked.lines) && is_one_asked(start.depth, asked.depth)
+}
+
+/// Why the file is not gone on with by what it says, if it isn't.
+fn fault_in(saved: &SessionFile<'_>, asked: Asked) -> Option<OpenFault>
+    ensures ending { result ≡ None → IsGood saved.now.journal.ending }
+    ensures depth { result ≡ None → ForSome saved.now.start.depth (λ depth. depth ≤ DEPTH_LIMIT) }
+    ensures asked { result ≡ None → IsAsked asked (beginning_in saved.now.start) }
+{
+    match saved.journal.ending {
+        Ending::Whole | Ending::Torn => {}
+        Ending::Changed | Ending::Unknown => {
+            return Some(OpenFault::Changed(saved.journal.records.len() + 1));
+        }
+    }
+    match saved.start.depth {
+        Some(depth) if depth > DEPTH_LIMIT => return Some(OpenFault::Head),
+        _ => {}
+    }
+    if is_asked(saved.start, asked) {
+        None
+    } else {
+        Some(OpenFault::Settings)
+    }
+}
+
+/// Whether an input is the one that a session began over, or what it wrote last.
+fn is_expected(
+    alloc: Global,
+    start: Start<'_>,
+    records: &[Record],
+    input: &[u8],
+) -> Result<bool, ReplayFault>
+    requires input { length start.input.now ≤ FILE_LIMIT }
+    requires depth { ForSome start.depth (λ depth. depth ≤ DEPTH_LIMIT) }
+    ensures { IfOk result (λ is. is ≡ true → IsExpected (beginning_in start.entry) (events_of records.now) input.now) }
+{
+    if input == start.input {
+        return Ok(true);
+    }
+    is_last_output(alloc, start, records, input)
+}
+
+/// Goes on with a session that the file holds, over this input. So many bytes come behind its lines.
+fn go_on<D: Disk>(
+    alloc: Global,
+    saved: &SessionFile<'_>,
+    torn: usize,
+    input: &[u8],
+    file: OpenFile<D>,
+    disk: &mut D,
+) -> Result<Opened<D>, OpenFault>
+    requires input { length saved.now.start.input.now ≤ FILE_LIMIT }
+    requires depth { ForSome saved.now.start.depth (λ depth. depth ≤ DEPTH_LIMIT) }
+    ensures file { IfOk result (λ opened. opened.file ≡ record { name = file.name; check = saved.now.journal.check }) }
+    ensures history { IfOk result (λ opened. history_of opened.session
+        ≡ after_events (first_history (beginning_in saved.now.start)) (events_of saved.now.journal.records.items)) }
+    ensures records { IfOk result (λ opened. opened.records ≡ length (events_of saved.now.journal.records.items)) }
+    ensures torn { IfOk result (λ opened. opened.torn ≡ torn) }
+    ensures expected { OnOk result
+        (IsExpected (beginning_in saved.now.start) (events_of saved.now.journal.records.items) input.now) }
+    ensures ok { OnOk result (FilesChange (D.seen disk.old) (D.seen disk.new) (CutsTo file.name saved.now.journal.good)) }
+    ensures err { OnErr result (FilesChange (D.seen disk.old) (D.seen disk.new) Same) }
+    ensures moments { FilesPass (D.seen disk.old) (D.seen disk.new)
+        (λ before now. Same before now ⊎ CutsTo file.name saved.now.journal.good before now) }
+    ensures streams { (D.seen disk.new).streams ≡ (D.seen disk.old).streams }
+{
+    let mut file = file;
+    let start = saved.start;
+    let records = saved.journal.records.as_slice();
+    let first = Vec::from_slice(alloc, start.input)?;
+    let session = resume(first, start.lines, start.depth, records, &mut Quiet)?;
+    if !is_expected(alloc, start, records, input)? {
+        return Err(OpenFault::Input);
+    }
+    match file.go_on(disk, saved.journal.good, saved.journal.check) {
+        Ok(()) => Ok(Opened {
+            session,
+            file,
+            records: records.len(),
+            torn,
+        }),
+        Err(error) => Err(no_file(error)),
+    }
+}
+
+/// Opens the file of a session. Where there is none, or one that ends before a head does, it is begun so; else the session that it holds goes
+/// on, if the input is the one that it was begun over or its last output.
+pub fn open_session<D: Disk>(
+    alloc: Global,
+    name: &str,
+    start: Start<'_>,
+    asked: Asked,
+    disk: &mut D,
+) -> Result<Opened<D>, OpenFault>
+    requires input { length start.input.now ≤ FILE_LIMIT }
+    requires depth { ForSome start.depth (λ depth. depth ≤ DEPTH_LIMIT) }
+    ensures ok { IfOk result (λ opened. Opens (beginning_in start.entry) asked name.now (D.seen disk.old) (D.seen disk.new)
+        (record {
+          file = opened.file;
+          history = history_of opened.session;
+          records = opened.records;
+          torn = opened.torn;
+        })) }
+    ensures err { OnErr result (StaysClosed (beginning_in start.entry) name.now (D.seen disk.old) (D.seen disk.new)) }
+{
+    let file = match OpenFile::open(alloc, name, disk) {
+        Ok(file) => file,
+        Err(error) => return Err(no_file(error)),
+    };
+    let bytes = match read_whole(alloc, name, disk) {
+        Ok(bytes) => bytes,
+        Err(error) => return Err(no_file(error)),
+    };
+    let saved = match read_session(alloc, bytes.as_slice()) {
+        Ok(saved) => saved,
+        Err(SessionFault::Head(HeadFault::Torn)) => return begin(alloc, start, file, disk),
+        Err(SessionFault::Head(HeadFault::Version)) => return Err(OpenFault::Version),
+        Err(SessionFault::Head(HeadFault::Changed)) => return Err(OpenFault::Head),
+        Err(SessionFault::Memory) => return Err(OpenFault::NoMemory),
+    };
+    if let Some(fault) = fault_in(&saved, asked) {
+        return Err(fault);
+    }
+    let torn = bytes.len() - saved.journal.good;
+    go_on(alloc, &saved, torn, start.input, file, disk)
+}

@@ -1,0 +1,75 @@
+//! What a session wrote last.
+ghost use Rattle.std.specs.Prelude.{◌≡◌, ◌≤◌, ◌&&◌, ◌++◌, IfOk, None, Some, length, not, true};
+ghost use Rattle.std.specs.Option.{ForSome};
+ghost use Rattle.teco_core.specs.declared.limits.TheConstants.{DEPTH_LIMIT, FILE_LIMIT};
+ghost use Rattle.teco_journal.specs.Events.{event_of, events_of};
+ghost use Rattle.teco_journal.specs.Heads.{beginning_in};
+ghost use Rattle.teco_recorder.specs.Opening.{first_history, is_run_event, last_output};
+ghost use Rattle.teco_session.specs.Kept.{history_of};
+
+use std::alloc::Global;
+use std::slice;
+use teco_journal::{Record, Start};
+use teco_replay::{Quiet, ReplayFault, replay};
+use teco_session::Session;
+use teco_store::Desk;
+
+/// Whether a record that made the session done, if it did, was an exit.
+fn is_exit(told: &Record, was_done: bool, is_done: bool) -> bool
+    ensures { result ≡ (is_run_event (event_of told.now) && (not was_done && is_done)) }
+{
+    matches!(told, Record::Run { .. }) && !was_done && is_done
+}
+
+/// Whether two parts, one after the other, are these bytes.
+fn are(parts: (&[u8], &[u8]), bytes: &[u8]) -> bool
+    ensures { result ≡ true → parts.entry.0.now ++ parts.entry.1.now ≡ bytes.now }
+{
+    match bytes.strip_prefix(parts.0) {
+        Some(rest) => rest == parts.1,
+        None => false,
+    }
+}
+
+/// Whether these bytes are the output of the last exit among some records, which the session does again.
+fn is_last_again(
+    session: &mut Session,
+    records: &[Record],
+    bytes: &[u8],
+) -> Result<bool, ReplayFault>
+    ensures { IfOk result (λ is. is ≡ true
+        → last_output (history_of session.old) (events_of records.now) None ≡ Some bytes.now) }
+{
+    let mut is_last = false;
+    for told in records {
+        let was_done = session.editor().done();
+        if let Err(fault) = replay(session, slice::from_ref(told), &mut Quiet) {
+            return Err(fault);
+        }
+        if is_exit(told, was_done, session.editor().done()) {
+            is_last = are(session.editor().output(), bytes);
+        }
+    }
+    Ok(is_last)
+}
+
+/// Whether these bytes are the output of the last exit among some records.
+pub fn is_last_output(
+    alloc: Global,
+    start: Start<'_>,
+    records: &[Record],
+    bytes: &[u8],
+) -> Result<bool, ReplayFault>
+    requires input { length start.input.now ≤ FILE_LIMIT }
+    requires depth { ForSome start.depth (λ depth. depth ≤ DEPTH_LIMIT) }
+    ensures { IfOk result (λ is. is ≡ true
+        → last_output (first_history (beginning_in start.entry)) (events_of records.now) None ≡ Some bytes.now) }
+{
+    let Ok(input) = Vec::from_slice(alloc, start.input) else {
+        return Err(ReplayFault::Memory);
+    };
+    let Ok(mut session) = Session::with_pages(input, start.lines, start.depth) else {
+        return Err(ReplayFault::Memory);
+    };
+    is_last_again(&mut session, records, bytes)
+}
