@@ -13,6 +13,11 @@ scaled() {
     echo $(($1 * WORK / 100))
 }
 
+# Why a line can't be run here, if it can't.
+why_not() {
+    :
+}
+
 run_teco() {
     exec "$1" --limit "$limit" --output out in < commands
 }
@@ -21,6 +26,7 @@ answer() {
     case $1 in
         peers) echo $peers ;;
         goals) echo "$goals" ;;
+        why_not) why_not ;;
         teco) run_teco "$TECO" ;;
         other) run_teco "$OTHER" ;;
         make) make ;;
