@@ -17,6 +17,7 @@ pub mod Standings
 pub mod Turns
 pub mod Outermost
 pub mod Placings
+pub mod Visited
 pub mod Calls
 pub mod Semicolons
 pub mod Remembering

@@ -57,7 +57,7 @@ pub lands : (text : List ℕ) (at to : ℕ) → IsTokenPlace text at to → IsTo
 lands text at to e = record { rest = e.rest ∙ sym (ap after_fillers e.rest ∙ fillers_twice (drop at text)); within = e.within }
 
 -- What is read at a place is read after the fillers there.
-read_on : (text : List ℕ) (at to : ℕ) (token : Option TokenMeaning) (left : List ℕ) → IsTokenPlace text at to → IsReadAt text at token left → IsReadAt text to token left
+pub read_on : (text : List ℕ) (at to : ℕ) (token : Option TokenMeaning) (left : List ℕ) → IsTokenPlace text at to → IsReadAt text at token left → IsReadAt text to token left
 read_on text at to (Some t) left e h = (h.0, h.1, ap scan e.rest ∙ scan_fillers (drop at text) ∙ h.2, h.3)
 read_on text at to None left e h = ap after_fillers e.rest ∙ fillers_twice (drop at text) ∙ h
 
@@ -112,7 +112,7 @@ called_told o c q at to callers p w read place = record {
 }
 
 -- The last place of a whole run that stopped, and of one whose last step failed.
-stopped_place : (o : Origin) (done : ℕ) (p : Told) → StandsWhereTold o [] p → p.steps ≡ done → IsPlaceAfter o.state o.text done p
+pub stopped_place : (o : Origin) (done : ℕ) (p : Told) → StandsWhereTold o [] p → p.steps ≡ done → IsPlaceAfter o.state o.text done p
 stopped_place o done p w same = record { there = w.there; stands = w.stands; told = w.told; within = omega arith; last = λ j more le. absurd (omega arith) }
 
 failed_place : (o : Origin) (done : ℕ) (p : Told) → StandsWhereTold o [] p → p.steps + 1 ≡ done → stands_after o.state o.text done ≡ None → IsPlaceAfter o.state o.text done p

@@ -214,7 +214,7 @@ stays_on k j i none (inr asked) (inl same) = absurd (none asked)
 stays_on k j i none (inl same) (inl also_same) = inl (also_same ∙ same)
 
 -- what is said of the steps up to one, and from there on
-up_to : {P : Type 0} (k d : ℕ) (is : Bool) → ltb k d ≡ is → (k < d → P) → (d ≤ k → P) → P
+pub up_to : {P : Type 0} (k d : ℕ) (is : Bool) → ltb k d ≡ is → (k < d → P) → (d ≤ k → P) → P
 up_to k d true e low high = low (ltb-true k d e)
 up_to k d false e low high = high (ltb-false k d e)
 

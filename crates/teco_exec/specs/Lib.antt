@@ -10,6 +10,7 @@ pub mod MachineLaws
 pub mod Places
 pub mod Telling
 pub mod Watching
+pub mod Following
 pub mod Frames
 pub mod Remembered
 pub mod Tokens

@@ -1,5 +1,6 @@
--- Where a run stands, in its text, its open blocks and its calls.
-use Rattle.std.specs.Prelude.{◌≡◌, ◌<◌, ◌≤◌, ℕ, List, [], ◌∷◌, ◌++◌, drop, Option, Some, None}
+-- Where a run stands, in its text, its open blocks and its calls; and the first step that comes at a place which is
+-- wanted.
+use Rattle.std.specs.Prelude.{◌≡◌, ◌<◌, ◌≤◌, ℕ, Bool, true, false, List, [], ◌∷◌, ◌++◌, drop, length, MatchOption, Option, Some, None}
 use Rattle.teco_scan.specs.Scan.{Item, TokenMeaning, found, scan, after_fillers, no_modifiers}
 use Rattle.teco_scan.specs.Scan as token
 use Rattle.teco_scan.specs.Breaks.{IsTokenPlace}
@@ -116,3 +117,49 @@ pub record IsPlaceAfter (s : State) (text : List ℕ) (k : ℕ) (p : Told) : Typ
   pub told : IsToldOf [] p there
   pub within : p.steps ≤ k
   pub last : (j : ℕ) → p.steps < j → j ≤ k → stands_after s text j ≡ None
+
+-- The run of a whole string stands so after k steps: with so many calls open, at this place of the innermost text.
+pub record IsVisit (s : State) (text : List ℕ) (k calls at : ℕ) : Type 0 where
+  pub told : Told
+  pub stood : IsPlaceAfter s text k told
+  pub steps_are : told.steps ≡ k
+  pub calls_are : length told.calls ≡ calls
+  pub at_is : told.at ≡ at
+
+-- What is sought: the run of a whole string from a state, which places are wanted with so many calls open, and the
+-- first step that is.
+pub record Wanted : Type 0 where
+  pub state : State
+  pub text : List ℕ
+  pub wanted : ℕ → ℕ → Bool
+  pub from : ℕ
+
+abbrev pub wanted_in : State → List ℕ → (ℕ → ℕ → Bool) → ℕ → Wanted
+wanted_in s text wanted from = record { state = s; text = text; wanted = wanted; from = from }
+
+-- Before each step from the one to the other, which is not among them, the run stood at the token that comes at
+-- this place.
+abbrev pub StoodThrough : Wanted → ℕ → ℕ → ℕ → List ℕ → ℕ → Type 0
+StoodThrough sought old new calls text at =
+    (k to : ℕ) → old ≤ k → k < new → IsTokenPlace text at to → IsVisit sought.state sought.text k calls to
+
+-- Before this step it stands at a place that is wanted, or at one that isn't.
+pub record StandsWanted (sought : Wanted) (k : ℕ) (so : Bool) : Type 0 where
+  pub calls : ℕ
+  pub at : ℕ
+  pub stands : IsVisit sought.state sought.text k calls at
+  pub is : sought.wanted calls at ≡ so
+
+-- No step up to this one, which is not among them, comes at a place that is wanted.
+abbrev pub NoneIsWanted : Wanted → ℕ → Type 0
+NoneIsWanted sought to = (k : ℕ) → sought.from ≤ k → k < to → StandsWanted sought k false
+
+-- This step is the first that does.
+pub record IsFirstWanted (sought : Wanted) (n : ℕ) : Type 0 where
+  pub after : sought.from ≤ n
+  pub here : StandsWanted sought n true
+  pub none : NoneIsWanted sought n
+
+-- Among so many steps the first one was found, or there is none.
+abbrev pub FindsWanted : Wanted → ℕ → Option ℕ → Type 0
+FindsWanted sought steps first = MatchOption first (NoneIsWanted sought steps) (IsFirstWanted sought)

@@ -1,5 +1,5 @@
 -- One step of a text: what is seen of it before and after.
-use Rattle.std.specs.Prelude.{◌≡◌, ◌<◌, ◌≤◌, ◌⊎◌, List, Some, length}
+use Rattle.std.specs.Prelude.{◌≡◌, ◌<◌, ◌≤◌, ◌⊎◌, ℕ, List, Some, length}
 use Rattle.teco_core.specs.declared.code.Code.TheVariants.{Lim}
 use Rattle.teco_store.specs.declared.desk.Desk.{Ghosts as DeskView}
 use Rattle.teco_io.specs.declared.terminal.Terminal.{Ghosts as TerminalView}
@@ -28,6 +28,8 @@ pub record StepsText {D T : Type 0} (desk : DeskView D) (terminal : TerminalView
   -- Where the run stops here, or a step failed, the blocks are as they were, and it stood at the cursor.
   pub around : OnLast f new.2.done (λ k. (cursor to).blocks ≡ (cursor from).blocks)
   pub stood : OnLast f new.2.done (HasStood desk terminal old from)
+  -- Before each step that it did it stood there too.
+  pub visited : (k : ℕ) → old.2.done ≤ k → k < new.2.done → HasStood desk terminal old from k
   pub calls : OnCall f (λ q. IsReadAt from.text.now from.at (Some (call_token q)) (cursor to).left)
 
 -- What uses no step was passed from one cursor to another, or nothing was: the text goes on there as it did here.

@@ -68,6 +68,21 @@ pub(crate) fn step<D: Desk, S: Stop, T: Terminal, W: Watch>(
         b';' => step_led::<D, S, T, W, b';'>(desk, cursor, from, steps, stop, term),
         b'\\' => step_led::<D, S, T, W, b'\\'>(desk, cursor, from, steps, stop, term),
         b'<' => step_led::<D, S, T, W, b'<'>(desk, cursor, from, steps, stop, term),
+        b'+' => step_apart::<D, S, T, W, b'+'>(desk, cursor, from, steps, stop, term),
+        b'*' => step_apart::<D, S, T, W, b'*'>(desk, cursor, from, steps, stop, term),
+        b'/' => step_apart::<D, S, T, W, b'/'>(desk, cursor, from, steps, stop, term),
+        b'A' => step_apart::<D, S, T, W, b'A'>(desk, cursor, from, steps, stop, term),
+        b',' => step_apart::<D, S, T, W, b','>(desk, cursor, from, steps, stop, term),
+        b'(' => step_apart::<D, S, T, W, b'('>(desk, cursor, from, steps, stop, term),
+        b')' => step_apart::<D, S, T, W, b')'>(desk, cursor, from, steps, stop, term),
+        b'[' => step_apart::<D, S, T, W, b'['>(desk, cursor, from, steps, stop, term),
+        b']' => step_apart::<D, S, T, W, b']'>(desk, cursor, from, steps, stop, term),
+        b'O' => step_apart::<D, S, T, W, b'O'>(desk, cursor, from, steps, stop, term),
+        b'B' => step_apart::<D, S, T, W, b'B'>(desk, cursor, from, steps, stop, term),
+        b'H' => step_apart::<D, S, T, W, b'H'>(desk, cursor, from, steps, stop, term),
+        b'T' => step_apart::<D, S, T, W, b'T'>(desk, cursor, from, steps, stop, term),
+        b'|' => step_led::<D, S, T, W, b'|'>(desk, cursor, from, steps, stop, term),
+        b'\'' => step_led::<D, S, T, W, b'\''>(desk, cursor, from, steps, stop, term),
         ESC => step_led::<D, S, T, W, ESC>(desk, cursor, from, steps, stop, term),
         _ => step_other(desk, cursor, from, steps, stop, term),
     }
@@ -114,6 +129,23 @@ fn step_led<D: Desk, S: Stop, T: Terminal, W: Watch, const BYTE: u8>(
         return step_known(desk, cursor, known, steps, stop, term);
     }
     step_any(desk, cursor, steps, stop, term)
+}
+
+/// Does what [`step_led`] does, out of line.
+#[inline(never)]
+fn step_apart<D: Desk, S: Stop, T: Terminal, W: Watch, const BYTE: u8>(
+    desk: &mut D,
+    cursor: &mut Cursor,
+    from: usize,
+    steps: &mut Steps,
+    stop: &mut S,
+    term: &mut T,
+) -> Flow
+    requires { Begins cursor.old.text.now cursor.old.at from }
+    ensures { StepsText D.Desk T.Terminal (S.answered stop.old) (S.answered stop.new)
+        (desk.old, term.old, steps.old) (desk.new, term.new, steps.new) cursor.old cursor.new result }
+{
+    step_led::<D, S, T, W, BYTE>(desk, cursor, from, steps, stop, term)
 }
 
 /// Passes a tag that begins at a place, and the tags that come after it.

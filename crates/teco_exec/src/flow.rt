@@ -79,6 +79,15 @@ impl Steps {
         self.done += 1;
     }
 
+    /// How many steps are done after the one that comes.
+    #[inline(always)]
+    pub fn next(&self) -> u64
+        requires { self.now.done < self.now.limit }
+        ensures { result ≡ self.now.done + 1 }
+    {
+        self.done + 1
+    }
+
     /// Whether no step may be begun: none is left, or the run is asked to stop.
     #[inline(always)]
     pub fn are_over<S: Stop>(&self, stop: &mut S) -> bool

@@ -1,9 +1,10 @@
 //! The run of a command string.
-ghost use Rattle.std.specs.Prelude.{None};
+ghost use Rattle.std.specs.Prelude.{Bool, None, ℕ};
 ghost use Rattle.teco_exec.specs.Options.{stop_left};
 ghost use Rattle.teco_exec.specs.Runs.{RunsWithin, StillSays};
 ghost use Rattle.teco_exec.specs.RunsOn.{RunsOn};
 ghost use Rattle.teco_exec.specs.Telling.{KnowsLast};
+ghost use Rattle.teco_exec.specs.Places.{wanted_in};
 
 use crate::called::Spare;
 use crate::flow::Steps;
@@ -53,6 +54,9 @@ pub fn run_with<D: Desk, S: Stop, T: Terminal, W: Watch>(
     ensures still { StillSays (S.answered options.entry.stop.now) (S.answered (stop_left options.exit)) }
     ensures told { W.knows watch None
         → KnowsLast (W.knows result.watch) (D.state desk.old) text.now result.outcome }
+    ensures visits { (wanted : ℕ → ℕ → Bool) (from : ℕ)
+        → W.follows watch (wanted_in (D.state desk.old) text.now wanted from) 0
+        → W.follows result.watch (wanted_in (D.state desk.old) text.now wanted from) result.outcome.steps }
 {
     let Options { limit, stop } = options;
     run_watched(desk, text, limit, stop, term, watch)
@@ -72,6 +76,9 @@ fn run_watched<D: Desk, S: Stop, T: Terminal, W: Watch>(
     ensures still { StillSays (S.answered stop.old) (S.answered stop.new) }
     ensures told { W.knows watch None
         → KnowsLast (W.knows result.watch) (D.state desk.old) text.now result.outcome }
+    ensures visits { (wanted : ℕ → ℕ → Bool) (from : ℕ)
+        → W.follows watch (wanted_in (D.state desk.old) text.now wanted from) 0
+        → W.follows result.watch (wanted_in (D.state desk.old) text.now wanted from) result.outcome.steps }
 {
     machine_laws();
     meaning_laws();

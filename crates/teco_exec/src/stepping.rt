@@ -1,5 +1,5 @@
 //! One step of what was found in a text.
-ghost use Rattle.std.specs.Prelude.{◌≡◌, ◌<◌, ◌≤◌, ℕ, List, None, Some, MatchOption, MatchResult, drop, false, length, true};
+ghost use Rattle.std.specs.Prelude.{◌≡◌, ◌+◌, ◌<◌, ◌≤◌, ℕ, List, None, Some, MatchOption, MatchResult, drop, false, length, true};
 ghost use Rattle.teco_core.specs.declared.code.Code.TheVariants.{Lim};
 ghost use Rattle.teco_scan.specs.Scan.{scan};
 ghost use Rattle.teco_scan.specs.Seen.{IsFoundAt, IsSpanIn, bytes_in, found_in};
@@ -84,6 +84,8 @@ fn token_steps<D: Desk, S: Stop, T: Terminal>(
     ensures stays { FlowStays cursor.old cursor.new result }
     ensures stood { OnLast result steps.new.done
         (HasStoodBefore D.Desk T.Terminal (desk.old, term.old, steps.old) cursor.old token.now) }
+    ensures visited { (k : ℕ) → steps.old.done ≤ k → k < steps.new.done
+        → HasStoodBefore D.Desk T.Terminal (desk.old, term.old, steps.old) cursor.old token.now k }
     ensures calls { OnCall result (λ q. token.now.kind ≡ call_of q) }
 {
     let mut work = None;
@@ -113,6 +115,7 @@ fn token_step<D: Desk, S: Stop, T: Terminal>(
     ensures text { cursor.new.text ≡ cursor.old.text }
     ensures counts { CountsSteps (S.answered stop.old) (S.answered stop.new)
         (result ≡ progress.Done (flow.Stop Lim)) steps.old steps.new }
+    ensures one { steps.new.done ≤ steps.old.done + 1 }
     ensures more { Continues result → steps.old.done < steps.new.done }
     ensures leads { RunLeads D.Desk T.Terminal (desk.old, term.old, steps.old) (desk.new, term.new, steps.new)
         (at_token cursor.old token.now work)
@@ -163,6 +166,7 @@ fn block_step<D: Desk, S: Stop>(
     ensures counts { CountsSteps (S.answered stop.old) (S.answered stop.new) (result ≡ flow.Stop Lim)
         steps.old steps.new }
     ensures more { GoesOn result → steps.old.done < steps.new.done }
+    ensures one { steps.new.done ≤ steps.old.done + 1 }
     ensures leads { (screen : Screen)
         → RunLeads D.Desk itself (desk.old, screen, steps.old) (desk.new, screen, steps.new)
         (at_block_step cursor.old block to) (λ callers. reached_by_flow cursor.new callers result) }

@@ -1,12 +1,14 @@
 //! The run of a text, and of the texts that it calls.
-ghost use Rattle.std.specs.Prelude.{◌≡◌, ◌≤◌, ◌<◌, ℕ, [], Some, is_some, length, true, false, None};
+ghost use Rattle.std.specs.Prelude.{◌≡◌, ◌≤◌, ◌<◌, ℕ, [], Option, Some, is_some, length, true, false, None};
 ghost use Rattle.teco_core.specs.ArgumentsView.{arguments};
 ghost use Rattle.teco_core.specs.Register.{content};
 ghost use Rattle.teco_core.specs.declared.code.Code.TheVariants.{Lim, Mem};
 ghost use Rattle.teco_scan.specs.Lists.{nodes};
 ghost use Rattle.teco_scan.specs.Breaks.{IsTokenPlace};
-ghost use Rattle.teco_exec.specs.Places.{IsReadAt, Told, call_token, with_call};
-ghost use Rattle.teco_exec.specs.Running.{RunLeadsAt, StandsFrom, StandsInside, Tells, code_left, at_beginning, at_register_call, reached_by_exit, reached_after_call};
+ghost use Rattle.teco_exec.specs.Following.{KeepsWatch, KeepsWatchInside};
+ghost use Rattle.teco_exec.specs.Places.{IsReadAt, Told, call_token, with_call, Wanted};
+ghost use Rattle.teco_exec.specs.Running.{RunLeadsAt, StandsFrom, StandsInside, Tells, code_left, at_beginning, at_cursor, at_register_call, reached_by_exit, reached_after_call};
+ghost use Rattle.teco_exec.specs.TextStep.{StepsText};
 ghost use Rattle.teco_exec.specs.Tokens.{CountsSteps};
 ghost use Rattle.teco_exec.specs.View.{cursor as cursor_of};
 ghost use Rattle.teco_exec.specs.Quiet.{takes_no_memory};
@@ -75,6 +77,8 @@ fn run_text<D: Desk, S: Stop, T: Terminal, W: Watch>(
     ensures no_memory { takes_no_memory (nodes text.now) ≡ true → code_left result ≡ Some Mem → ⊥ }
     ensures told { W.knows running.old.watch None → Tells (W.knows running.new.watch) result running.new.steps.done
         (StandsFrom D.Desk T.Terminal running.old.depth (desk.old, term.old, running.old.steps) (at_beginning (arguments args.old) text.now)) }
+    ensures visits { KeepsWatch D.Desk T.Terminal W.follows running.old.depth (desk.old, term.old, running.old.steps)
+        (at_beginning (arguments args.old) text.now) running.old.watch running.new.watch running.new.steps.done }
 {
     if rooms.is_empty() {
         return run_apart(desk, text, args, running, stop, term);
@@ -102,6 +106,8 @@ fn run_apart<D: Desk, S: Stop, T: Terminal, W: Watch>(
     ensures no_memory { takes_no_memory (nodes text.now) ≡ true → code_left result ≡ Some Mem → ⊥ }
     ensures told { W.knows running.old.watch None → Tells (W.knows running.new.watch) result running.new.steps.done
         (StandsFrom D.Desk T.Terminal running.old.depth (desk.old, term.old, running.old.steps) (at_beginning (arguments args.old) text.now)) }
+    ensures visits { KeepsWatch D.Desk T.Terminal W.follows running.old.depth (desk.old, term.old, running.old.steps)
+        (at_beginning (arguments args.old) text.now) running.old.watch running.new.watch running.new.steps.done }
 {
     let mut rooms = [EMPTY_ROOM; ROOMS];
     run_in(desk, text, args, &mut rooms, running, stop, term)
@@ -128,6 +134,8 @@ pub(crate) fn run_in<D: Desk, S: Stop, T: Terminal, W: Watch>(
     ensures no_memory { takes_no_memory (nodes text.now) ≡ true → code_left result ≡ Some Mem → ⊥ }
     ensures told { W.knows running.old.watch None → Tells (W.knows running.new.watch) result running.new.steps.done
         (StandsFrom D.Desk T.Terminal running.old.depth (desk.old, term.old, running.old.steps) (at_beginning (arguments args.old) text.now)) }
+    ensures visits { KeepsWatch D.Desk T.Terminal W.follows running.old.depth (desk.old, term.old, running.old.steps)
+        (at_beginning (arguments args.old) text.now) running.old.watch running.new.watch running.new.steps.done }
 {
     let Some((room, rooms)) = rooms.split_first_mut() else {
         unreachable!();
@@ -135,7 +143,7 @@ pub(crate) fn run_in<D: Desk, S: Stop, T: Terminal, W: Watch>(
     let mut cursor = Cursor::begin(text, *args, room, memory_of(desk));
     'running: loop {
         let at = cursor.at;
-        match step::<D, S, T, W>(desk, &mut cursor, &mut running.steps, stop, term) {
+        match step_watched(desk, &mut cursor, running, stop, term) {
             Flow::On => continue 'running,
             Flow::Call(register) => {
                 let site = CallSite { register, at };
@@ -159,6 +167,31 @@ pub(crate) fn run_in<D: Desk, S: Stop, T: Terminal, W: Watch>(
             }
         }
     }
+}
+
+/// Passes what comes at the cursor, or does its steps, and tells the watch of these.
+#[inline(always)]
+fn step_watched<D: Desk, S: Stop, T: Terminal, W: Watch>(
+    desk: &mut D,
+    cursor: &mut Cursor,
+    running: &mut Running<W>,
+    stop: &mut S,
+    term: &mut T,
+) -> Flow
+    ensures step { StepsText D.Desk T.Terminal (S.answered stop.old) (S.answered stop.new)
+        (desk.old, term.old, running.old.steps) (desk.new, term.new, running.new.steps) cursor.old cursor.new result }
+    ensures depth { running.new.depth ≡ running.old.depth }
+    ensures knows { (p : Option Told) → W.knows running.old.watch p → W.knows running.new.watch p }
+    ensures visits { KeepsWatch D.Desk T.Terminal W.follows running.old.depth (desk.old, term.old, running.old.steps)
+        (at_cursor cursor.old) running.old.watch running.new.watch running.new.steps.done }
+{
+    let at = cursor.at;
+    let done = running.steps.done;
+    let flow = step::<D, S, T, W>(desk, cursor, &mut running.steps, stop, term);
+    running
+        .watch
+        .stepped(done, running.steps.done, running.depth, at, cursor);
+    flow
 }
 
 /// Does the step that calls the text of a register, at the cursor of the text that calls it. Where it returns, the cursor goes on.
@@ -191,12 +224,18 @@ fn run_called<D: Desk, S: Stop, T: Terminal, W: Watch>(
     ensures told { W.knows running.old.watch None → Tells (W.knows running.new.watch) result running.new.steps.done
         (StandsFrom D.Desk T.Terminal running.old.depth (desk.old, term.old, running.old.steps)
         (at_register_call cursor.old site.register)) }
+    ensures visits { KeepsWatch D.Desk T.Terminal W.follows running.old.depth (desk.old, term.old, running.old.steps)
+        (at_register_call cursor.old site.register) running.old.watch running.new.watch running.new.steps.done }
 {
     if running.steps.are_over(stop) {
         running.steps.limit = running.steps.done;
         running.watch.stood(running.steps.done, site.at, cursor);
         return Exit::Stop(Code::Lim);
     }
+    let (done, next) = (running.steps.done, running.steps.next());
+    running
+        .watch
+        .stepped(done, next, running.depth, site.at, cursor);
     if running.depth == CALL_LIMIT {
         running.steps.count();
         desk.step_done(running.steps.done);
@@ -235,6 +274,7 @@ fn tell_call<W: Watch>(exit: Exit, site: CallSite, cursor: &Cursor, watch: &mut 
     ensures some { is_some (code_left exit) ≡ true → (p : Told) → W.knows watch.old (Some p)
         → (to : ℕ) × IsTokenPlace cursor.now.text.now site.at to
         × W.knows watch.new (Some (with_call p site.register to (cursor_of cursor.now).blocks)) }
+    ensures follows { (sought : Wanted) (done : ℕ) → W.follows watch.old sought done → W.follows watch.new sought done }
 {
     if exit.code().is_some() {
         watch.called(site.register, site.at, cursor);
@@ -268,6 +308,9 @@ fn run_copy<D: Desk, S: Stop, T: Terminal, W: Watch>(
     ensures told { (q : ℕ) → called.now ≡ (content (D.state desk.old).registers q).text
         → W.knows running.old.watch None → Tells (W.knows running.new.watch) result running.new.steps.done
         (StandsInside D.Desk T.Terminal running.old.depth (desk.old, term.old, running.old.steps) cursor.old q) }
+    ensures visits { (q : ℕ) → called.now ≡ (content (D.state desk.old).registers q).text
+        → KeepsWatchInside D.Desk T.Terminal W.follows running.old.depth (desk.old, term.old, running.old.steps)
+        cursor.old q running.old.watch running.new.watch running.new.steps.done }
 {
     running.steps.count();
     desk.step_done(running.steps.done);

@@ -1,7 +1,7 @@
 //! What is told of where a run last stood.
 ghost use Rattle.std.specs.Prelude.{◌≡◌, ◌≤◌, ℕ, IfOk, IsSomeAnd, Ok, Option, None, Some, length};
 ghost use Rattle.teco_scan.specs.Breaks.{IsTokenPlace};
-ghost use Rattle.teco_exec.specs.Places.{Told, told_here, with_call};
+ghost use Rattle.teco_exec.specs.Places.{Told, told_here, with_call, Wanted, StoodThrough};
 ghost use Rattle.teco_exec.specs.View.{cursor as cursor_of};
 
 use crate::cursor::Cursor;
@@ -17,17 +17,31 @@ pub trait Watch {
     // that it has been told nothing, or so
     ghost knows: { Self → Option Told → Type 0 };
 
+    // that it has followed a run for so many steps, and seeks this in it
+    ghost follows: { Self → Wanted → ℕ → Type 0 };
+
+    /// The steps of a run from the one to the other, which is not among them, come at a place of this text, with so many calls open. It
+    /// may be that some of them aren't done.
+    fn stepped(&mut self, old: u64, new: u64, calls: usize, at: usize, cursor: &Cursor)
+        requires within { at ≤ length cursor.now.text.now }
+        requires order { old ≤ new }
+        ensures knows { (p : Option Told) → knows self.old p → knows self.new p }
+        ensures follows { (sought : Wanted) (done : ℕ) → StoodThrough sought old new calls cursor.now.text.now at
+            → follows self.old sought old → old ≤ done → done ≤ new → follows self.new sought done };
+
     /// After so many steps the run stood at a place of this text, and then it stopped or its step failed.
     fn stood(&mut self, steps: u64, at: usize, cursor: &Cursor)
         requires { at ≤ length cursor.now.text.now }
-        ensures { knows self.old None → (to : ℕ) × IsTokenPlace cursor.now.text.now at to
-            × knows self.new (Some (told_here steps cursor.now.text.now to (cursor_of cursor.now).blocks)) };
+        ensures told { knows self.old None → (to : ℕ) × IsTokenPlace cursor.now.text.now at to
+            × knows self.new (Some (told_here steps cursor.now.text.now to (cursor_of cursor.now).blocks)) }
+        ensures follows { (sought : Wanted) (done : ℕ) → follows self.old sought done → follows self.new sought done };
 
     /// That was in the text of this register, which is called at a place of this text.
     fn called(&mut self, register: Reg, at: usize, cursor: &Cursor)
         requires { at ≤ length cursor.now.text.now }
-        ensures { (p : Told) → knows self.old (Some p) → (to : ℕ) × IsTokenPlace cursor.now.text.now at to
-            × knows self.new (Some (with_call p register to (cursor_of cursor.now).blocks)) };
+        ensures told { (p : Told) → knows self.old (Some p) → (to : ℕ) × IsTokenPlace cursor.now.text.now at to
+            × knows self.new (Some (with_call p register to (cursor_of cursor.now).blocks)) }
+        ensures follows { (sought : Wanted) (done : ℕ) → follows self.old sought done → follows self.new sought done };
 }
 
 /// Nobody watches.
@@ -36,6 +50,11 @@ pub struct Unwatched;
 
 impl Watch for Unwatched {
     ghost knows = { λ _ _. Unit {0} };
+
+    ghost follows = { λ _ _ _. Unit {0} };
+
+    #[inline(always)]
+    fn stepped(&mut self, _old: u64, _new: u64, _calls: usize, _at: usize, _cursor: &Cursor) {}
 
     #[inline(always)]
     fn stood(&mut self, _steps: u64, _at: usize, _cursor: &Cursor) {}
@@ -113,6 +132,11 @@ impl Watch for Watched {
     ghost use Rattle.teco_exec.specs.Watching.{Knows};
 
     ghost knows = { Knows };
+
+    ghost follows = { λ _ _ _. Unit {0} };
+
+    #[inline(always)]
+    fn stepped(&mut self, _old: u64, _new: u64, _calls: usize, _at: usize, _cursor: &Cursor) {}
 
     fn stood(&mut self, steps: u64, at: usize, cursor: &Cursor) {
         self.has_stood = true;

@@ -1,6 +1,6 @@
 -- Where bytes that admit themselves alone are, as the occurrences of the pattern that they are.
-use Rattle.std.proofs.Common.{◌≡◌, ℕ, ◌+◌, ◌-◌, ◌<◌, List, [], ◌∷◌, length, map, true, Some, None, subst, arith, ⊎_elim}
-use Rattle.std.specs.Prelude.{min}
+use Rattle.std.proofs.Common.{◌≡◌, ℕ, ◌+◌, ◌-◌, ◌<◌, List, [], ◌∷◌, length, map, true, Some, None, sym, ap, subst, arith, ⊎_elim, pos}
+use Rattle.std.specs.Prelude.{min, slice_get}
 use Rattle.std.specs.List.{list_all}
 use Rattle.std.proofs.lemmas.Bool.{cases_lt}
 use Rattle.std.proofs.lemmas.List.{length-map}
@@ -11,7 +11,7 @@ use Rattle.teco_search.specs.declared.search.Forward.TheVariants as forwards
 use Rattle.teco_search.specs.declared.search.Backward.{Backward}
 use Rattle.teco_search.specs.declared.search.Backward.TheVariants as backwards
 use Rattle.teco_search.specs.Literal.{plain, is_exact, IsLiteral}
-use Rattle.teco_search.specs.Occurrence.{looked_for, match_end, forward, backward_ending_by, backward}
+use Rattle.teco_search.specs.Occurrence.{looked_for, match_end, forward, backward_ending_by, backward, occurrence}
 use Rattle.teco_search.specs.Search.{sought_forward, sought_backward, IsReadyForward, IsReadyBackward}
 use Rattle.teco_search.proofs.Past.{match_past}
 use Rattle.teco_search.proofs.Occurring.{forward-none, forward-some, ending_by-none, ending_by-some, backward-none, backward-some}
@@ -52,6 +52,15 @@ module _ (mode : CaseMode) (bytes text : List ℕ) (some : 0 < length bytes) (ex
   literal_forward-some from s found =
       forward-some (looked_for mode (map plain bytes)) text several from s (s + length bytes) found.0.low (literal_hit mode text bytes s exact found.1)
       (λ j low below. literal_none mode text bytes j some exact (found.0.before j low below))
+
+  -- the first of them forward
+  pub literal_first-none : (from : ℕ) → FindsNeedle text bytes from None → None ≡ occurrence (looked_for mode (map plain bytes)) text from (pos 1)
+  unfolding occurrence
+  literal_first-none from none = sym (ap (λ ms. slice_get ms 0) (literal_forward-none from none))
+
+  pub literal_first-some : (from s : ℕ) → FindsNeedle text bytes from (Some s) → Some (s, s + length bytes) ≡ occurrence (looked_for mode (map plain bytes)) text from (pos 1)
+  unfolding occurrence
+  literal_first-some from s found = sym (ap (λ ms. slice_get ms 0) (literal_forward-some from s found))
 
   pub literal_ending_by-none : (to : ℕ) → FindsLastNeedleBy text bytes to None → backward_ending_by (looked_for mode (map plain bytes)) text to ≡ []
   literal_ending_by-none to none =

@@ -2,6 +2,7 @@
 #![tactic(auto)]
 
 mod anchor;
+mod as_it_stands;
 mod byte_set;
 mod byte_table;
 mod element;
@@ -17,6 +18,7 @@ mod reading;
 mod run;
 mod search;
 
+pub use as_it_stands::{find_plain, is_plain};
 pub use element::{Class, Element, Items, OneByte, SetItem};
 pub use law::{literal_texts, occurrences, search_texts};
 pub use pattern::{Pattern, count, find, find_forward, matches_at};

@@ -3,6 +3,7 @@ ghost use Rattle.std.specs.Prelude.{◌≡◌, ◌⊎◌, ◌<◌, ◌≤◌, �
 ghost use Rattle.std.specs.List.{list_all};
 ghost use Rattle.teco_search.specs.Literal.{plain, is_exact};
 ghost use Rattle.teco_search.specs.Reading.{Reads, occurs_at, byte_at, class_named, item_at, listed_at, items_at, one_byte_at, element_at, read};
+ghost use Rattle.teco_search.specs.Spelling.{is_control};
 
 use crate::element::{Class, Element, Items, OneByte, SetItem, is_exact};
 use std::alloc::Global;
@@ -23,6 +24,24 @@ const CONTROL_V: u8 = 22;
 const CONTROL_W: u8 = 23;
 
 const CONTROL_X: u8 = 24;
+
+/// Whether a byte means something else than itself in a search text.
+#[inline(always)]
+pub(crate) fn is_control(byte: u8) -> bool
+    ensures { result ≡ is_control byte }
+{
+    matches!(
+        byte,
+        CONTROL_Q
+            | CONTROL_E
+            | CONTROL_X
+            | CONTROL_S
+            | CONTROL_N
+            | CONTROL_R
+            | CONTROL_V
+            | CONTROL_W
+    )
+}
 
 fn occurs_at(text: &[u8], at: usize, byte: u8) -> bool
     ensures { result ≡ occurs_at text.now at byte }

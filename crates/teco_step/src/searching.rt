@@ -16,7 +16,7 @@ use crate::next::{Next, Setting};
 use crate::registers::give_alone;
 use crate::taking::{takes_none, takes_one_or, truth};
 use teco_core::{Args, Code};
-use teco_search::{Pattern, find, matches_at};
+use teco_search::{Pattern, find, find_plain, is_plain, matches_at};
 use teco_store::Desk;
 
 /// The text that a search means: an empty one means the last one.
@@ -60,7 +60,8 @@ fn takes_count(args: &Args) -> Result<i32, Failure>
     Ok(n)
 }
 
-/// Where the nth occurrence of a text from the pointer begins and ends, if there is one.
+/// Where the nth occurrence of a text from the pointer begins and ends, if there is one. The first one of a plain text is looked for as it
+/// stands, which takes no memory.
 fn found<D: Desk>(desk: &D, text: &[u8], args: &Args) -> Result<Option<(usize, usize)>, Failure>
     ensures ok { IfOk result (λ m. searching.found text.now (D.state desk.now) (arguments args.now) ≡ Ok m) }
     ensures err { IfErr result (λ failure. IsRefusal failure
@@ -69,6 +70,10 @@ fn found<D: Desk>(desk: &D, text: &[u8], args: &Args) -> Result<Option<(usize, u
         (λ m. (m.0 ≤ m.1) × (m.1 ≤ length (D.state desk.now).text))) }
 {
     let n = takes_count(args)?;
+    let meant = meant(desk, text);
+    if n == 1 && is_plain(meant, desk.case_mode()) {
+        return Ok(find_plain(meant, desk.halves(), desk.pointer()));
+    }
     let pattern = sought(desk, text)?;
     Ok(find(&pattern, desk.halves(), desk.pointer(), n))
 }

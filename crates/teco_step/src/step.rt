@@ -22,6 +22,7 @@ use teco_scan::{Bare, Command, Item, RegisterCommand, Span, TextCommand, Token, 
 use teco_store::Desk;
 
 /// A step of a command without an operand.
+#[inline(always)]
 fn command_step<D: Desk, T: Terminal>(
     desk: &mut D,
     command: Command,
@@ -54,6 +55,7 @@ fn command_step<D: Desk, T: Terminal>(
 }
 
 /// A step of what has no operand.
+#[inline(always)]
 fn bare_step<D: Desk, T: Terminal>(
     desk: &mut D,
     bare: Bare,
@@ -100,6 +102,7 @@ fn register_step<D: Desk, T: Terminal>(
 }
 
 /// A step of a command with one text.
+#[inline(always)]
 fn text_step<D: Desk, T: Terminal>(
     desk: &mut D,
     command: TextCommand,

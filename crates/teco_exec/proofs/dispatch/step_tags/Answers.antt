@@ -20,5 +20,6 @@ returns-in-On g c =
       quiet = λ q. more.quiet (first.quiet q);
       around = tt;
       stood = tt;
+      visited = first.visited;
       calls = tt;
     }

@@ -4,6 +4,7 @@ use Rattle.teco_exec.specs.Running.{Origin}
 use Rattle.teco_exec.proofs.NoMemory.{ends_quietly}
 use Rattle.teco_exec.proofs.Continuations.{broken_off, whole_begins, whole_ends}
 use Rattle.teco_exec.proofs.Placings.{tells_last}
+use Rattle.teco_exec.proofs.Visited.{no_call_open}
 use Rattle.teco_exec.proofs.StringLaws.{runs_exit}
 use Rattle.teco_exec.proofs.running.run_watched.Goals as goal
 
@@ -43,3 +44,9 @@ returns-clause-told g c knows =
     let begins = whole_begins c.machine_laws.ensures.means o (g.D.Desk.follows c.args.desk.now) (arguments c.new-args.result) c.new-args.ensures in
     (tells_last (g.W.Watch.knows c.run_in-exit.new.running.watch) _ limit o _ _ (arguments c.run_in-exit.new.args) c.run_in-exit.result c.code.result c.code.ensures (c.run_in-exit.ensures.leads o [] refl begins)
     (λ p from. from o [] refl begins) (c.run_in-exit.ensures.told knows))
+
+pub returns-clause-visits : goal.returns-clause-visits
+returns-clause-visits g c wanted first follows =
+    let o : Origin = record { state = g.D.Desk.state c.args.desk.now; text = c.args.text.now; screen = g.T.Terminal.screen c.args.term.now } in
+    let begins = whole_begins c.machine_laws.ensures.means o (g.D.Desk.follows c.args.desk.now) (arguments c.new-args.result) c.new-args.ensures in
+    c.run_in-exit.ensures.visits o [] [] refl no_call_open begins wanted first follows

@@ -25,6 +25,7 @@ returns-in-Passed g c = record {
   quiet = λ q. comes_quietly c.block_laws.ensures c.args.cursor.now c.pass.new.self c.args.found.now Passed c.in-Passed.ensures.comes q;
   around = tt;
   stood = tt;
+  visited = λ k from to. absurd (omega arith);
   calls = tt;
 }
 
@@ -59,6 +60,15 @@ returns-in-Token g c = record {
             (comes_token c.block_laws.ensures c.args.cursor.now to c.args.found.now callers c.in-Step.ensures.text c.in-Token.token c.in-Token.is c.in-Step.ensures.comes)).going;
         is = token_is c.args.cursor.now to c.args.found.now c.in-Token.token c.in-Token.is c.requires.read c.in-Step.ensures.comes c.in-Step.ensures.text (length to.text.now, told) callers;
       }) c.token_steps.ensures.stood;
+  visited = λ k from below o callers at.
+      let to = c.pass.new.self in
+      let told = subst (λ f. IsStepFound to.text.now f) c.in-Token.is c.in-Step.ensures.told in record {
+        there = token_standing to c.in-Token.token callers;
+        stands = c.token_steps.ensures.visited k from below o callers
+            (continues o _ _ at (at_token to c.in-Token.token None callers)
+            (comes_token c.block_laws.ensures c.args.cursor.now to c.args.found.now callers c.in-Step.ensures.text c.in-Token.token c.in-Token.is c.in-Step.ensures.comes)).going;
+        is = token_is c.args.cursor.now to c.args.found.now c.in-Token.token c.in-Token.is c.requires.read c.in-Step.ensures.comes c.in-Step.ensures.text (length to.text.now, told) callers;
+      };
   calls =
       let to = c.pass.new.self in
       let told = subst (λ f. IsStepFound to.text.now f) c.in-Token.is c.in-Step.ensures.told in
@@ -84,6 +94,10 @@ returns-in-Block g c = record {
       block_stands o _ c.args.cursor.now c.pass.new.self c.in-Block.block c.in-Block.to k callers same c.in-Block.ensures.told.2
       (continues o _ _ at (at_block_step c.pass.new.self c.in-Block.block c.in-Block.to callers)
       (comes_block c.block_laws.ensures c.args.cursor.now c.pass.new.self c.args.found.now callers c.in-Block.ensures.told.2 c.in-Block.block c.in-Block.to c.in-Block.ensures.comes)).going) c.block_step.ensures.stood;
+  visited = λ k from below o callers at.
+      block_stands o _ c.args.cursor.now c.pass.new.self c.in-Block.block c.in-Block.to k callers (omega (arith, from, below, c.block_step.ensures.one)) c.in-Block.ensures.told.2
+      (continues o _ _ at (at_block_step c.pass.new.self c.in-Block.block c.in-Block.to callers)
+      (comes_block c.block_laws.ensures c.args.cursor.now c.pass.new.self c.args.found.now callers c.in-Block.ensures.told.2 c.in-Block.block c.in-Block.to c.in-Block.ensures.comes)).going;
   calls = on_call c.block_step.result (λ q x. absurd x) c.block_step.ensures.calls;
 }
 
@@ -98,6 +112,7 @@ returns-in-End g c = record {
   quiet = λ q. tt;
   around = tt;
   stood = tt;
+  visited = λ k from to. absurd (omega arith);
   calls = tt;
 }
 
@@ -112,5 +127,6 @@ returns-in-Fault g c = record {
   quiet = λ q e. (let same : c.in-Fault.code ≡ Mem = cc in let no : is_unfinished_code Mem ≡ false = subst (λ x. is_unfinished_code x ≡ false) same c.in-Fault.ensures.told.0 in absurd cc);
   around = ap (λ (x : Cursor). (cursor x).blocks) c.in-Fault.ensures.told.1;
   stood = λ o callers at. fault_stands c.block_laws.ensures o _ c.args.cursor.now c.pass.new.self c.args.found.now c.in-Fault.code callers c.in-Fault.ensures.comes at;
+  visited = λ k from to. absurd (omega arith);
   calls = tt;
 }

@@ -1,8 +1,8 @@
-use Rattle.std.proofs.Common.{◌≡◌, Some, true, subst, sym, ◌∙◌}
+use Rattle.std.proofs.Common.{◌≡◌, Some, true, refl, subst, sym, ◌∙◌, arith, ltb}
 use Rattle.teco_step.specs.Stepping.{takes_nothing_in}
 use Rattle.teco_exec.specs.Running.{at_token, reached_by_flow, goes}
 use Rattle.teco_exec.proofs.Going.{since}
-use Rattle.teco_exec.proofs.Stepped.{counts_on, counts_so}
+use Rattle.teco_exec.proofs.Stepped.{counts_on, counts_so, up_to}
 use Rattle.teco_exec.proofs.Standings.{flow_stays_on, on_last, stays_on, token_stands}
 use Rattle.teco_exec.proofs.stepping.token_steps.Goals as goal
 
@@ -15,6 +15,9 @@ stepping-preserved g c = record {
   going = λ o callers at.
       let there = c.stepping.invariant.going o callers at in
       since 0 o _ _ _ (goes (at_token c.token_step.new.cursor c.args.token.now (Some c.in-Further.left) callers)) there.follows (c.in-Further.ensures.leads o callers there.going);
+  visited = λ k after less o callers at.
+      up_to k c.stepping.steps.done (ltb k c.stepping.steps.done) refl (λ low. c.stepping.invariant.visited k after low o callers at)
+      (λ high. token_stands c.args.token.now callers o _ c.stepping.cursor c.args.cursor.now c.stepping.work k (omega (arith, high, less, c.in-Further.ensures.one)) (c.stepping.invariant.going o callers at).going c.stepping.invariant.text c.stepping.invariant.stays);
 }
 
 pub returns-in-Done-clause-leads : goal.returns-in-Done-clause-leads
@@ -32,3 +35,8 @@ returns-in-Done-clause-stood g c =
 
 pub returns-in-Done-clause-counts : goal.returns-in-Done-clause-counts
 returns-in-Done-clause-counts g c = counts_on c.stepping.invariant.counts (counts_so (λ e. cc) c.in-Done.ensures.counts)
+
+pub returns-in-Done-clause-visited : goal.returns-in-Done-clause-visited
+returns-in-Done-clause-visited g c k after less o callers at =
+    up_to k c.stepping.steps.done (ltb k c.stepping.steps.done) refl (λ low. c.stepping.invariant.visited k after low o callers at)
+    (λ high. token_stands c.args.token.now callers o _ c.stepping.cursor c.args.cursor.now c.stepping.work k (omega (arith, high, less, c.in-Done.ensures.one)) (c.stepping.invariant.going o callers at).going c.stepping.invariant.text c.stepping.invariant.stays)

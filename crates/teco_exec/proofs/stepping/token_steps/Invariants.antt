@@ -1,8 +1,8 @@
-use Rattle.std.proofs.Common.{◌≡◌, ◌-◌, None, true, List}
+use Rattle.std.proofs.Common.{◌≡◌, ◌-◌, ◌<◌, ◌≤◌, ℕ, None, true, List}
 use Rattle.teco_step.specs.Stepping.{takes_nothing_in}
 use Rattle.teco_exec.specs.Machine.{Caller}
 use Rattle.teco_exec.specs.Quiet.{IsQuiet}
-use Rattle.teco_exec.specs.Running.{ReachesContinuation, RunGoesOn, Origin, at_token, host}
+use Rattle.teco_exec.specs.Running.{HasStoodBefore, ReachesContinuation, RunGoesOn, Origin, at_token, host}
 use Rattle.teco_exec.specs.Tokens.{CountsSteps}
 use Rattle.teco_exec.specs.View.{Stays, cursor}
 use Rattle.teco_exec.proofs.stepping.token_steps.Given as goal
@@ -17,6 +17,8 @@ invariant-stepping g l = record {
       → RunGoesOn o (host g.D.Desk g.T.Terminal (l.fn.desk, l.fn.term, l.fn.steps)) (at_token l.fn.cursor l.token None callers)
       → ReachesContinuation o (host g.D.Desk g.T.Terminal (l.fn.desk, l.fn.term, l.fn.steps))
       (host g.D.Desk g.T.Terminal (l.desk, l.term, l.steps)) (at_token l.cursor l.token l.work callers);
+  visited : (k : ℕ) → l.fn.steps.done ≤ k → k < l.steps.done
+      → HasStoodBefore g.D.Desk g.T.Terminal (l.fn.desk, l.fn.term, l.fn.steps) l.fn.cursor l.token k;
 }
 
 abbrev pub decreases-stepping : goal.decreases-stepping

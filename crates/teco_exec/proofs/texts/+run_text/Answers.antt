@@ -8,8 +8,9 @@ use Rattle.teco_exec.proofs.Continuations.{begins, comes_home, less_left, too_de
 use Rattle.teco_exec.proofs.Calls.{ends_around, enters_copy, tells_around, tells_on}
 use Rattle.teco_exec.proofs.Going.{since}
 use Rattle.teco_exec.proofs.NoMemory.{begins_quietly}
-use Rattle.teco_exec.specs.Places.{IsReadAt, call_token, told_here, with_call}
+use Rattle.teco_exec.specs.Places.{IsReadAt, call_token, told_here, with_call, wanted_in}
 use Rattle.teco_exec.proofs.Placings.{call_told_here, called_told, stood_told}
+use Rattle.teco_exec.proofs.Visited.{call_made, one_call_more, visited_call}
 use Rattle.teco_exec.proofs.Stepped.{call_fails, call_leads, call_unpaid, counts_none, counts_on, counts_one, counts_over, counts_so, says_on, text_in}
 use Rattle.teco_core.specs.declared.code.Code.TheVariants.{Pdo}
 use Rattle.teco_exec.proofs.texts.+run_text.Goals as goal
@@ -20,79 +21,89 @@ run_in-running-init g t c = record {
   counts = counts_none says_on;
   depth = refl;
   watch = λ knows. knows;
+  visits = λ o callers calls deep called e wanted first p. p;
   quiet = begins_quietly (arguments c.args.args.now) c.args.text.now (cursor c.begin-cursor.result) c.begin-cursor.ensures.begins;
   going = λ o callers deep e. begins o _ (arguments c.args.args.now) c.args.text.now c.begin-cursor.result callers c.begin-cursor.ensures.text c.begin-cursor.ensures.begins e;
 }
 
 pub run_in-running-smaller-in-On : goal.run_in-running-smaller-in-On
 run_in-running-smaller-in-On g t c =
-    let steps = c.step.new.steps in
-    let to = c.step.new.cursor in
+    let steps = c.step_watched.new.running.steps in
+    let to = c.step_watched.new.cursor in
     let short : length (drop to.at to.text.now) ≤ length c.args.text.now =
-    let same : length to.text.now ≡ length c.args.text.now = ap length (ap (λ x. x.now) c.in-On.ensures.text ∙ c.running.invariant.text) in
+    let same : length to.text.now ≡ length c.args.text.now = ap length (ap (λ x. x.now) c.in-On.ensures.step.text ∙ c.running.invariant.text) in
     omega (arith, same, length-drop to.at to.text.now) in
-    less_left steps.limit c.running.running.steps.limit c.running.running.steps.done steps.done (length c.args.text.now) (length (cursor c.running.cursor).left) (length (cursor to).left) c.in-On.ensures.counts.limit c.in-On.ensures.counts.more steps.within short (c.in-On.ensures.advances tt)
+    less_left steps.limit c.running.running.steps.limit c.running.running.steps.done steps.done (length c.args.text.now) (length (cursor c.running.cursor).left) (length (cursor to).left) c.in-On.ensures.step.counts.limit c.in-On.ensures.step.counts.more steps.within short (c.in-On.ensures.step.advances tt)
 
 pub run_in-running-preserved-in-On : goal.run_in-running-preserved-in-On
 run_in-running-preserved-in-On g t c = record {
-  text = ap (λ x. x.now) c.in-On.ensures.text ∙ c.running.invariant.text;
-  counts = counts_on c.running.invariant.counts (counts_so (λ e. absurd cc) c.in-On.ensures.counts);
-  depth = c.running.invariant.depth;
-  watch = c.running.invariant.watch;
-  quiet = λ h. c.in-On.ensures.quiet (c.running.invariant.quiet h);
+  text = ap (λ x. x.now) c.in-On.ensures.step.text ∙ c.running.invariant.text;
+  counts = counts_on c.running.invariant.counts (counts_so (λ e. absurd cc) c.in-On.ensures.step.counts);
+  depth = c.in-On.ensures.depth ∙ c.running.invariant.depth;
+  watch = λ knows. c.in-On.ensures.knows None (c.running.invariant.watch knows);
+  visits = λ o callers calls deep called e wanted first p.
+      let there = c.running.invariant.going o callers deep e in
+      c.in-On.ensures.visits o callers calls (deep ∙ sym c.running.invariant.depth) called there.going wanted first (c.running.invariant.visits o callers calls deep called e wanted first p);
+  quiet = λ h. c.in-On.ensures.step.quiet (c.running.invariant.quiet h);
   going = λ o callers deep e.
       let there = c.running.invariant.going o callers deep e in
-      since 0 o _ _ _ (goes (at_cursor c.step.new.cursor callers)) there.follows (c.in-On.ensures.leads o callers there.going);
+      since 0 o _ _ _ (goes (at_cursor c.step_watched.new.cursor callers)) there.follows (c.in-On.ensures.step.leads o callers there.going);
 }
 
 pub run_in-returns-in-Return-clause-leads : goal.run_in-returns-in-Return-clause-leads
 run_in-returns-in-Return-clause-leads g t c o callers deep e =
     let there = c.running.invariant.going o callers deep e in
-    since 0 o _ _ _ (goes (at_return (arguments c.step.new.cursor.args) callers)) there.follows (c.in-Return.ensures.leads o callers there.going)
+    since 0 o _ _ _ (goes (at_return (arguments c.step_watched.new.cursor.args) callers)) there.follows (c.in-Return.ensures.step.leads o callers there.going)
 
 pub run_in-returns-in-Over-clause-leads : goal.run_in-returns-in-Over-clause-leads
 run_in-returns-in-Over-clause-leads g t c o callers deep e =
     let there = c.running.invariant.going o callers deep e in
-    since c.step.new.steps.limit o _ _ _ (over None) there.follows (c.in-Over.ensures.leads o callers there.going)
+    since c.step_watched.new.running.steps.limit o _ _ _ (over None) there.follows (c.in-Over.ensures.step.leads o callers there.going)
 
 pub run_in-returns-in-Fail-clause-leads : goal.run_in-returns-in-Fail-clause-leads
 run_in-returns-in-Fail-clause-leads g t c o callers deep e =
     let there = c.running.invariant.going o callers deep e in
-    since c.step.new.steps.limit o _ _ _ (over (Some c.in-Fail.code)) there.follows (c.in-Fail.ensures.leads o callers there.going)
+    since c.step_watched.new.running.steps.limit o _ _ _ (over (Some c.in-Fail.code)) there.follows (c.in-Fail.ensures.step.leads o callers there.going)
 
 pub run_in-returns-in-Fail-clause-no_memory : goal.run_in-returns-in-Fail-clause-no_memory
-run_in-returns-in-Fail-clause-no_memory g t c h e = c.in-Fail.ensures.quiet (c.running.invariant.quiet h) e
+run_in-returns-in-Fail-clause-no_memory g t c h e = c.in-Fail.ensures.step.quiet (c.running.invariant.quiet h) e
 
 pub run_in-returns-in-Stop-clause-leads : goal.run_in-returns-in-Stop-clause-leads
 run_in-returns-in-Stop-clause-leads g t c o callers deep e =
     let there = c.running.invariant.going o callers deep e in
-    since c.step.new.steps.limit o _ _ _ (stops c.in-Stop.code) there.follows (c.in-Stop.ensures.leads o callers there.going)
+    since c.step_watched.new.running.steps.limit o _ _ _ (stops c.in-Stop.code) there.follows (c.in-Stop.ensures.step.leads o callers there.going)
 
 pub run_in-returns-in-Stop-clause-no_memory : goal.run_in-returns-in-Stop-clause-no_memory
-run_in-returns-in-Stop-clause-no_memory g t c h e = c.in-Stop.ensures.quiet (c.running.invariant.quiet h) e
+run_in-returns-in-Stop-clause-no_memory g t c h e = c.in-Stop.ensures.step.quiet (c.running.invariant.quiet h) e
 
 pub run_in-running-smaller : goal.run_in-running-smaller
 run_in-running-smaller g t c =
     let steps = c.run_called.new.running.steps in
-    let to = c.step.new.cursor in
+    let to = c.step_watched.new.cursor in
     let back = c.run_called.new.cursor in
     let left : length (cursor back).left ≡ length (cursor to).left = ap length c.in-Return-run_called.ensures.left in
     let short : length (cursor back).left ≤ length c.args.text.now =
-    let same : length to.text.now ≡ length c.args.text.now = ap length (ap (λ x. x.now) c.in-Call.ensures.text ∙ c.running.invariant.text) in
+    let same : length to.text.now ≡ length c.args.text.now = ap length (ap (λ x. x.now) c.in-Call.ensures.step.text ∙ c.running.invariant.text) in
     omega (arith, same, left, length-drop to.at to.text.now) in
-    less_left steps.limit c.running.running.steps.limit c.running.running.steps.done steps.done (length c.args.text.now) (length (cursor c.running.cursor).left) (length (cursor back).left) (omega (arith, c.in-Call.ensures.counts.limit, c.in-Return-run_called.ensures.counts.limit)) (omega (arith, c.in-Call.ensures.counts.more, c.in-Return-run_called.ensures.counts.more)) steps.within short (inl (omega (arith, c.in-Call.ensures.counts.more, c.in-Return-run_called.ensures.more refl)))
+    less_left steps.limit c.running.running.steps.limit c.running.running.steps.done steps.done (length c.args.text.now) (length (cursor c.running.cursor).left) (length (cursor back).left) (omega (arith, c.in-Call.ensures.step.counts.limit, c.in-Return-run_called.ensures.counts.limit)) (omega (arith, c.in-Call.ensures.step.counts.more, c.in-Return-run_called.ensures.counts.more)) steps.within short (inl (omega (arith, c.in-Call.ensures.step.counts.more, c.in-Return-run_called.ensures.more refl)))
 
 pub run_in-running-preserved : goal.run_in-running-preserved
 run_in-running-preserved g t c = record {
-  text = ap (λ x. x.now) (c.in-Return-run_called.ensures.text ∙ c.in-Call.ensures.text) ∙ c.running.invariant.text;
-  counts = counts_on c.running.invariant.counts (counts_on (counts_so (λ e. absurd cc) c.in-Call.ensures.counts) (counts_so (λ e. absurd cc) c.in-Return-run_called.ensures.counts));
-  depth = c.in-Return-run_called.ensures.depth ∙ c.running.invariant.depth;
-  watch = λ knows. c.in-Return-run_called.ensures.told (c.running.invariant.watch knows);
-  quiet = λ h. absurd (c.in-Call.ensures.quiet (c.running.invariant.quiet h));
+  text = ap (λ x. x.now) (c.in-Return-run_called.ensures.text ∙ c.in-Call.ensures.step.text) ∙ c.running.invariant.text;
+  counts = counts_on c.running.invariant.counts (counts_on (counts_so (λ e. absurd cc) c.in-Call.ensures.step.counts) (counts_so (λ e. absurd cc) c.in-Return-run_called.ensures.counts));
+  depth = c.in-Return-run_called.ensures.depth ∙ c.in-Call.ensures.depth ∙ c.running.invariant.depth;
+  watch = λ knows. c.in-Return-run_called.ensures.told (c.in-Call.ensures.knows None (c.running.invariant.watch knows));
+  visits = λ o callers calls deep called e wanted first p.
+      let there = c.running.invariant.going o callers deep e in
+      let here = c.in-Call.ensures.step.leads o callers there.going in
+      let same = deep ∙ sym c.running.invariant.depth in
+      c.in-Return-run_called.ensures.visits o callers calls (same ∙ sym c.in-Call.ensures.depth) called here.going wanted first
+      (c.in-Call.ensures.visits o callers calls same called there.going wanted first (c.running.invariant.visits o callers calls deep called e wanted first p));
+  quiet = λ h. absurd (c.in-Call.ensures.step.quiet (c.running.invariant.quiet h));
   going = λ o callers deep e.
       let there = c.running.invariant.going o callers deep e in
-      let here = c.in-Call.ensures.leads o callers there.going in
-      let back = c.in-Return-run_called.ensures.leads o callers (deep ∙ sym c.running.invariant.depth) here.going in
+      let here = c.in-Call.ensures.step.leads o callers there.going in
+      let back = c.in-Return-run_called.ensures.leads o callers (deep ∙ sym c.running.invariant.depth ∙ sym c.in-Call.ensures.depth) here.going in
       record { going = back.going; follows = λ floor p. back.follows floor (here.follows floor (there.follows floor p)) };
 }
 
@@ -105,39 +116,39 @@ run_called-returns-in-Err-clause-leads g t c o callers deep e =
     call_fails c.args.cursor.now c.args.site.register callers o _ e c.args.running.now.steps.limit (c.are_over.ensures.left c.if-are_over.false)
 
 pub run_in-returns-in-Return-clause-told : goal.run_in-returns-in-Return-clause-told
-run_in-returns-in-Return-clause-told g t c knows = c.running.invariant.watch knows
+run_in-returns-in-Return-clause-told g t c knows = c.in-Return.ensures.knows None (c.running.invariant.watch knows)
 
 pub run_in-returns-in-Over-clause-told : goal.run_in-returns-in-Over-clause-told
-run_in-returns-in-Over-clause-told g t c knows = c.running.invariant.watch knows
+run_in-returns-in-Over-clause-told g t c knows = c.in-Over.ensures.knows None (c.running.invariant.watch knows)
 
 pub run_in-returns-in-Fail-clause-told : goal.run_in-returns-in-Fail-clause-told
 run_in-returns-in-Fail-clause-told g t c knows =
-    let told = c.stood.ensures (c.running.invariant.watch knows) in
-    let done = c.step.new.steps.done in (
-      told_here (done - 1) c.step.new.cursor.text.now told.0 (cursor c.step.new.cursor).blocks,
+    let told = c.stood.ensures.told (c.in-Fail.ensures.knows None (c.running.invariant.watch knows)) in
+    let done = c.step_watched.new.running.steps.done in (
+      told_here (done - 1) c.step_watched.new.cursor.text.now told.0 (cursor c.step_watched.new.cursor).blocks,
       told.2,
-      omega (arith, c.in-Fail.ensures.stood.0),
+      omega (arith, c.in-Fail.ensures.step.stood.0),
       λ o callers deep e.
           let there = c.running.invariant.going o callers deep e in
-          stood_told o (done - 1) c.running.cursor c.step.new.cursor callers told.0
-          (c.in-Fail.ensures.stood.1 o callers there.going) c.in-Fail.ensures.text c.in-Fail.ensures.around.1 told.1,
+          stood_told o (done - 1) c.running.cursor c.step_watched.new.cursor callers told.0
+          (c.in-Fail.ensures.step.stood.1 o callers there.going) c.in-Fail.ensures.step.text c.in-Fail.ensures.step.around.1 told.1,
     )
 
 pub run_in-returns-in-Stop-clause-told : goal.run_in-returns-in-Stop-clause-told
 run_in-returns-in-Stop-clause-told g t c knows =
-    let told = c.stood-in-Stop.ensures (c.running.invariant.watch knows) in (
-      told_here c.step.new.steps.done c.step.new.cursor.text.now told.0 (cursor c.step.new.cursor).blocks,
+    let told = c.stood-in-Stop.ensures.told (c.in-Stop.ensures.knows None (c.running.invariant.watch knows)) in (
+      told_here c.step_watched.new.running.steps.done c.step_watched.new.cursor.text.now told.0 (cursor c.step_watched.new.cursor).blocks,
       told.2,
       refl,
       λ o callers deep e.
           let there = c.running.invariant.going o callers deep e in
-          stood_told o c.step.new.steps.done c.running.cursor c.step.new.cursor callers told.0
-          (c.in-Stop.ensures.stood o callers there.going) c.in-Stop.ensures.text c.in-Stop.ensures.around told.1,
+          stood_told o c.step_watched.new.running.steps.done c.running.cursor c.step_watched.new.cursor callers told.0
+          (c.in-Stop.ensures.step.stood o callers there.going) c.in-Stop.ensures.step.text c.in-Stop.ensures.step.around told.1,
     )
 
 pub run_called-returns-then-are_over-clause-told : goal.run_called-returns-then-are_over-clause-told
 run_called-returns-then-are_over-clause-told g t c knows =
-    let told = c.stood.ensures knows in (
+    let told = c.stood.ensures.told knows in (
       told_here c.args.running.now.steps.done c.args.cursor.now.text.now told.0 (cursor c.args.cursor.now).blocks,
       told.2,
       refl,
@@ -147,7 +158,7 @@ run_called-returns-then-are_over-clause-told g t c knows =
 
 pub run_called-returns-in-Err-clause-told : goal.run_called-returns-in-Err-clause-told
 run_called-returns-in-Err-clause-told g t c knows =
-    let told = c.stood-in-Err.ensures knows in (
+    let told = c.stood-in-Err.ensures.told (c.stepped.ensures.knows None knows) in (
       told_here c.args.running.now.steps.done c.args.cursor.now.text.now told.0 (cursor c.args.cursor.now).blocks,
       told.2,
       refl,
@@ -156,22 +167,22 @@ run_called-returns-in-Err-clause-told g t c knows =
     )
 
 pub run_in-stood-requires : goal.run_in-stood-requires
-run_in-stood-requires g t c = subst (λ x. c.running.cursor.at ≤ length x.now) (sym c.in-Fail.ensures.text) c.running.cursor.within
+run_in-stood-requires g t c = subst (λ x. c.running.cursor.at ≤ length x.now) (sym c.in-Fail.ensures.step.text) c.running.cursor.within
 
 pub run_in-stood-requires-in-Stop : goal.run_in-stood-requires-in-Stop
-run_in-stood-requires-in-Stop g t c = subst (λ x. c.running.cursor.at ≤ length x.now) (sym c.in-Stop.ensures.text) c.running.cursor.within
+run_in-stood-requires-in-Stop g t c = subst (λ x. c.running.cursor.at ≤ length x.now) (sym c.in-Stop.ensures.step.text) c.running.cursor.within
 
 pub run_in-returns-in-Return-clause-counts : goal.run_in-returns-in-Return-clause-counts
-run_in-returns-in-Return-clause-counts g t c = counts_on c.running.invariant.counts (counts_so (λ e. absurd cc) c.in-Return.ensures.counts)
+run_in-returns-in-Return-clause-counts g t c = counts_on c.running.invariant.counts (counts_so (λ e. absurd cc) c.in-Return.ensures.step.counts)
 
 pub run_in-returns-in-Over-clause-counts : goal.run_in-returns-in-Over-clause-counts
-run_in-returns-in-Over-clause-counts g t c = counts_on c.running.invariant.counts (counts_so (λ e. absurd cc) c.in-Over.ensures.counts)
+run_in-returns-in-Over-clause-counts g t c = counts_on c.running.invariant.counts (counts_so (λ e. absurd cc) c.in-Over.ensures.step.counts)
 
 pub run_in-returns-in-Fail-clause-counts : goal.run_in-returns-in-Fail-clause-counts
-run_in-returns-in-Fail-clause-counts g t c = counts_on c.running.invariant.counts (counts_so (λ e. absurd cc) c.in-Fail.ensures.counts)
+run_in-returns-in-Fail-clause-counts g t c = counts_on c.running.invariant.counts (counts_so (λ e. absurd cc) c.in-Fail.ensures.step.counts)
 
 pub run_in-returns-in-Stop-clause-counts : goal.run_in-returns-in-Stop-clause-counts
-run_in-returns-in-Stop-clause-counts g t c = counts_on c.running.invariant.counts (counts_so (λ e. cc) c.in-Stop.ensures.counts)
+run_in-returns-in-Stop-clause-counts g t c = counts_on c.running.invariant.counts (counts_so (λ e. cc) c.in-Stop.ensures.step.counts)
 
 pub run_called-returns-then-are_over-clause-counts : goal.run_called-returns-then-are_over-clause-counts
 run_called-returns-then-are_over-clause-counts g t c = counts_over c.are_over.ensures.still (c.are_over.ensures.over c.if-are_over.true) refl refl refl
@@ -191,7 +202,7 @@ run_called-returns-then-running-eq-CALL_LIMIT-clause-leads g t c o callers deep 
 
 pub run_called-returns-then-running-eq-CALL_LIMIT-clause-told : goal.run_called-returns-then-running-eq-CALL_LIMIT-clause-told
 run_called-returns-then-running-eq-CALL_LIMIT-clause-told g t c knows =
-    let told = c.stood-then-running-eq-CALL_LIMIT.ensures knows in
+    let told = c.stood-then-running-eq-CALL_LIMIT.ensures.told (c.stepped.ensures.knows None knows) in
     let before = c.count.new.self.done - 1 in
     let same : before ≡ c.args.running.now.steps.done = omega (arith, c.count.ensures.done) in (
       told_here before c.args.cursor.now.text.now told.0 (cursor c.args.cursor.now).blocks,
@@ -207,7 +218,7 @@ run_called-returns-then-len-le-SHORT_LIMIT-clause-told g t c knows =
     let at = c.args.site.at in
     let ran = c.run_copy-exit in
     tells_around g.W.Watch.knows ran.new.running.watch c.tell_call.new.watch _ _ ran.result ran.new.running.steps.done ran.new.cursor.text.now at q (cursor ran.new.cursor).blocks
-    c.tell_call.ensures.none c.tell_call.ensures.some (ran.ensures.told q (search rules) knows)
+    c.tell_call.ensures.none c.tell_call.ensures.some (ran.ensures.told q (search rules) (c.stepped.ensures.knows None knows))
     (λ p to inside place o callers deep e.
     subst (λ bs. StandsWhereTold o callers (with_call p q to bs)) (sym ran.ensures.blocks)
     (called_told o c.args.cursor.now q at to callers p (inside o callers deep e) c.requires.token (subst (λ x. IsTokenPlace x.now at to) ran.ensures.text place)))
@@ -218,7 +229,7 @@ run_called-returns-in-Ok-clause-told g t c knows =
     let at = c.args.site.at in
     let ran = c.run_copy-exit-in-Ok in
     tells_around g.W.Watch.knows ran.new.running.watch c.tell_call-in-Ok.new.watch _ _ ran.result ran.new.running.steps.done ran.new.cursor.text.now at q (cursor ran.new.cursor).blocks
-    c.tell_call-in-Ok.ensures.none c.tell_call-in-Ok.ensures.some (ran.ensures.told q (search rules) knows)
+    c.tell_call-in-Ok.ensures.none c.tell_call-in-Ok.ensures.some (ran.ensures.told q (search rules) (c.stepped.ensures.knows None knows))
     (λ p to inside place o callers deep e.
     subst (λ bs. StandsWhereTold o callers (with_call p q to bs)) (sym ran.ensures.blocks)
     (called_told o c.args.cursor.now q at to callers p (inside o callers deep e) c.requires.token (subst (λ x. IsTokenPlace x.now at to) ran.ensures.text place)))
@@ -248,3 +259,66 @@ run_copy-returns-clause-told g t c q copy knows =
     let into = enters_copy from q callers o _ e c.count.new.self.done c.count.ensures.done (g.D.Desk.state c.step_done.new.self) c.step_done.ensures.state (g.D.Desk.follows c.step_done.new.self)
     (g.met.D.Desk.eases c.args.desk.now) c.step_done.ensures.follows c.args.called.now copy fewer in
     stands o (caller from ∷ callers) deeper into.going)
+
+pub run_in-returns-in-Return-clause-visits : goal.run_in-returns-in-Return-clause-visits
+run_in-returns-in-Return-clause-visits g t c o callers calls deep called e wanted first p =
+    let there = c.running.invariant.going o callers deep e in
+    c.in-Return.ensures.visits o callers calls (deep ∙ sym c.running.invariant.depth) called there.going wanted first (c.running.invariant.visits o callers calls deep called e wanted first p)
+
+pub run_in-returns-in-Over-clause-visits : goal.run_in-returns-in-Over-clause-visits
+run_in-returns-in-Over-clause-visits g t c o callers calls deep called e wanted first p =
+    let there = c.running.invariant.going o callers deep e in
+    c.in-Over.ensures.visits o callers calls (deep ∙ sym c.running.invariant.depth) called there.going wanted first (c.running.invariant.visits o callers calls deep called e wanted first p)
+
+pub run_in-returns-in-Fail-clause-visits : goal.run_in-returns-in-Fail-clause-visits
+run_in-returns-in-Fail-clause-visits g t c o callers calls deep called e wanted first p =
+    let there = c.running.invariant.going o callers deep e in
+    c.stood.ensures.follows _ _ (c.in-Fail.ensures.visits o callers calls (deep ∙ sym c.running.invariant.depth) called there.going wanted first (c.running.invariant.visits o callers calls deep called e wanted first p))
+
+pub run_in-returns-in-Stop-clause-visits : goal.run_in-returns-in-Stop-clause-visits
+run_in-returns-in-Stop-clause-visits g t c o callers calls deep called e wanted first p =
+    let there = c.running.invariant.going o callers deep e in
+    c.stood-in-Stop.ensures.follows _ _ (c.in-Stop.ensures.visits o callers calls (deep ∙ sym c.running.invariant.depth) called there.going wanted first (c.running.invariant.visits o callers calls deep called e wanted first p))
+
+pub run_called-returns-then-are_over-clause-visits : goal.run_called-returns-then-are_over-clause-visits
+run_called-returns-then-are_over-clause-visits g t c o callers calls deep called e wanted first p = c.stood.ensures.follows _ _ p
+
+pub run_called-returns-in-Err-clause-visits : goal.run_called-returns-in-Err-clause-visits
+run_called-returns-in-Err-clause-visits g t c o callers calls deep called e wanted first p =
+    c.stood-in-Err.ensures.follows _ _ (c.stepped.ensures.follows (wanted_in o.state o.text wanted first) c.args.running.now.steps.done
+    (λ k to from below place. visited_call o c.args.cursor.now callers calls called k c.args.running.now.depth deep _ c.args.site.register c.args.site.at to (omega (arith, from, below, c.next-next.ensures)) e c.requires.token place)
+    p (omega arith) (omega (arith, c.next-next.ensures)))
+
+pub run_called-returns-then-running-eq-CALL_LIMIT-clause-visits : goal.run_called-returns-then-running-eq-CALL_LIMIT-clause-visits
+run_called-returns-then-running-eq-CALL_LIMIT-clause-visits g t c o callers calls deep called e wanted first p =
+    c.stood-then-running-eq-CALL_LIMIT.ensures.follows _ _ (c.stepped.ensures.follows (wanted_in o.state o.text wanted first) c.count.new.self.done
+    (λ k to from below place. visited_call o c.args.cursor.now callers calls called k c.args.running.now.depth deep _ c.args.site.register c.args.site.at to (omega (arith, from, below, c.next-next.ensures)) e c.requires.token place)
+    p (omega (arith, c.count.ensures.done)) (omega (arith, c.count.ensures.done, c.next-next.ensures)))
+
+pub run_called-returns-then-len-le-SHORT_LIMIT-clause-visits : goal.run_called-returns-then-len-le-SHORT_LIMIT-clause-visits
+run_called-returns-then-len-le-SHORT_LIMIT-clause-visits g t c o callers calls deep called e wanted first p =
+    let q = c.args.site.register in
+    let made = call_made c.args.cursor.now q c.args.site.at c.requires.within c.requires.token in
+    c.tell_call.ensures.follows _ _ (c.run_copy-exit.ensures.visits q (search rules) o callers made.0 calls deep made.1 called e wanted first
+    (c.stepped.ensures.follows (wanted_in o.state o.text wanted first) (c.args.running.now.steps.done + 1)
+    (λ k to from below place. visited_call o c.args.cursor.now callers calls called k c.args.running.now.depth deep _ q c.args.site.at to (omega (arith, from, below, c.next-next.ensures)) e c.requires.token place)
+    p (omega arith) (omega (arith, c.next-next.ensures))))
+
+pub run_called-returns-in-Ok-clause-visits : goal.run_called-returns-in-Ok-clause-visits
+run_called-returns-in-Ok-clause-visits g t c o callers calls deep called e wanted first p =
+    let q = c.args.site.register in
+    let made = call_made c.args.cursor.now q c.args.site.at c.requires.within c.requires.token in
+    c.tell_call-in-Ok.ensures.follows _ _ (c.run_copy-exit-in-Ok.ensures.visits q (search rules) o callers made.0 calls deep made.1 called e wanted first
+    (c.stepped.ensures.follows (wanted_in o.state o.text wanted first) (c.args.running.now.steps.done + 1)
+    (λ k to from below place. visited_call o c.args.cursor.now callers calls called k c.args.running.now.depth deep _ q c.args.site.at to (omega (arith, from, below, c.next-next.ensures)) e c.requires.token place)
+    p (omega arith) (omega (arith, c.next-next.ensures))))
+
+pub run_copy-returns-clause-visits : goal.run_copy-returns-clause-visits
+run_copy-returns-clause-visits g t c q copy o callers x calls deep is called e wanted first p =
+    let from = c.args.cursor.now in
+    let fewer : length callers < 32 = omega (arith, deep, c.requires.deep) in
+    let deeper : length (caller from ∷ callers) ≡ c.args.running.now.depth + 1 = omega (arith, deep) in
+    let into = enters_copy from q callers o _ e c.count.new.self.done c.count.ensures.done (g.D.Desk.state c.step_done.new.self) c.step_done.ensures.state (g.D.Desk.follows c.step_done.new.self)
+    (g.met.D.Desk.eases c.args.desk.now) c.step_done.ensures.follows c.args.called.now copy fewer in
+    c.run_text-exit.ensures.visits o (caller from ∷ callers) (x ∷ calls) deeper (one_call_more (caller from) callers x calls is called) into.going wanted first
+    (subst (g.W.Watch.follows c.args.running.now.watch (wanted_in o.state o.text wanted first)) (sym c.count.ensures.done) p)

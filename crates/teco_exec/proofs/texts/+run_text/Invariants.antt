@@ -5,6 +5,7 @@ use Rattle.teco_scan.specs.Lists.{nodes}
 use Rattle.teco_exec.specs.Quiet.{IsQuiet, takes_no_memory}
 use Rattle.teco_exec.specs.View.{cursor}
 use Rattle.teco_exec.specs.Running.{ReachesContinuation, RunGoesOn, Origin, at_beginning, at_cursor, host}
+use Rattle.teco_exec.specs.Following.{KeepsWatch}
 use Rattle.teco_exec.specs.Tokens.{CountsSteps}
 use Rattle.teco_exec.proofs.texts.+run_text.Given as goal
 
@@ -28,6 +29,8 @@ invariant-run_in-running g l = record {
   text : l.cursor.text.now ≡ l.text;
   counts : CountsSteps (g.S.Stop.answered l.fn.stop) (g.S.Stop.answered l.stop) ⊥ l.fn.running.steps l.running.steps;
   watch : g.W.Watch.knows l.fn.running.watch None → g.W.Watch.knows l.running.watch None;
+  visits : KeepsWatch g.D.Desk g.T.Terminal g.W.Watch.follows l.fn.running.depth (l.fn.desk, l.fn.term, l.fn.running.steps)
+      (at_beginning (arguments l.fn.args) l.text) l.fn.running.watch l.running.watch l.running.steps.done;
   depth : l.running.depth ≡ l.fn.running.depth;
   quiet : takes_no_memory (nodes l.text) ≡ true → IsQuiet (cursor l.cursor);
   going : (o : Origin) (callers : List Caller) → length callers ≡ l.fn.running.depth

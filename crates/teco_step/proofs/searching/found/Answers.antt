@@ -19,6 +19,6 @@ returns-clause-ok g c =
     let q = c.in_ok-pattern.pattern in
     let n = c.in_ok-n.n in
     let fits : FitsSigned w32 n = search rules in
-    let is = c.find.ensures.value ∙ ap (λ t. occurrence q t c.pointer.result (to_z w32 (of_z w32 n))) c.halves.ensures.joined
-    ∙ ap (λ p. occurrence q s.text p (to_z w32 (of_z w32 n))) c.pointer.ensures.value ∙ ap (occurrence q s.text s.pointer) (to_z-of_z w32 n fits) in
+    let is = c.find.ensures.value ∙ ap (λ t. occurrence q t c.pointer-2.result (to_z w32 (of_z w32 n))) c.halves-2.ensures.joined
+    ∙ ap (λ p. occurrence q s.text p (to_z w32 (of_z w32 n))) c.pointer-2.ensures.value ∙ ap (occurrence q s.text s.pointer) (to_z-of_z w32 n fits) in
     then_ok _ n _ _ c.in_ok-n.ensures (then_ok _ q _ _ c.in_ok-pattern.ensures.ok (ap Ok (sym is)))

@@ -5,8 +5,8 @@ use Rattle.teco_exec.proofs.Placings.{has_place, kept_call}
 use Rattle.teco_exec.proofs.Turns.{turns_same}
 use Rattle.teco_exec.proofs.watch.WatchedWatch.called.Goals as goal
 
-pub returns-else-is_err : goal.returns-else-is_err
-returns-else-is_err c p known =
+pub returns-else-is_err-clause-told : goal.returns-else-is_err-clause-told
+returns-else-is_err-clause-told c p known =
     let at = c.args.cursor.now in
     let call : Call = record { register = c.args.register; at = c.filler_end.result; turns = c.in-Ok.turns } in
     let more : c.push.new.self.items ≡ c.args.self.now.place.calls.items ++ call ∷ [] = search rules in (
@@ -18,12 +18,12 @@ returns-else-is_err c p known =
       ),
     )
 
-pub returns-in-Err : goal.returns-in-Err
-returns-in-Err c p known =
+pub returns-in-Err-clause-told : goal.returns-in-Err-clause-told
+returns-in-Err-clause-told c p known =
     let h = has_place c.args.cursor.now.text.now c.args.at c.requires in
     (h.0, h.1, (known.0, λ memory. absurd (let no : true ≡ false = memory in cc)))
 
-pub returns-then-is_err : goal.returns-then-is_err
-returns-then-is_err c p known =
+pub returns-then-is_err-clause-told : goal.returns-then-is_err-clause-told
+returns-then-is_err-clause-told c p known =
     let h = has_place c.args.cursor.now.text.now c.args.at c.requires in
     (h.0, h.1, (known.0, λ memory. absurd (let no : true ≡ false = memory in cc)))

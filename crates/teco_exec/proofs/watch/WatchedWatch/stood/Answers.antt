@@ -4,8 +4,8 @@ use Rattle.teco_exec.proofs.Placings.{has_place, kept_here}
 use Rattle.teco_exec.proofs.Turns.{turns_same}
 use Rattle.teco_exec.proofs.watch.WatchedWatch.stood.Goals as goal
 
-pub returns-in-Ok : goal.returns-in-Ok
-returns-in-Ok c known =
+pub returns-in-Ok-clause-told : goal.returns-in-Ok-clause-told
+returns-in-Ok-clause-told c known =
     let at = c.args.cursor.now in (
       c.filler_end-self.result,
       record { rest = c.filler_end-self.ensures.read; within = c.filler_end-self.ensures.within.1 },
@@ -15,7 +15,7 @@ returns-in-Ok c known =
       ),
     )
 
-pub returns-in-Err : goal.returns-in-Err
-returns-in-Err c known =
+pub returns-in-Err-clause-told : goal.returns-in-Err-clause-told
+returns-in-Err-clause-told c known =
     let h = has_place c.args.cursor.now.text.now c.args.at c.requires in
     (h.0, h.1, (refl, λ memory. absurd (let no : true ≡ false = memory in cc)))
