@@ -1,8 +1,9 @@
 //! The run of a command string whose changes are kept.
-ghost use Rattle.std.specs.Prelude.{◌≡◌, ℕ, List, length, None, true, false};
+ghost use Rattle.std.specs.Prelude.{◌≡◌, ℕ, Bool, List, length, None, true, false};
 ghost use Rattle.teco_store.specs.State.{IsSound, state_of};
 ghost use Rattle.teco_undo.specs.Follows.{LeadsBack};
 ghost use Rattle.teco_exec.specs.Options.{stop_left};
+ghost use Rattle.teco_exec.specs.Places.{wanted_in};
 ghost use Rattle.teco_exec.specs.Runs.{Runs, RunsWithin, StillSays, is_tty};
 ghost use Rattle.teco_exec.specs.StringMeaning.{string_meaning};
 ghost use Rattle.teco_exec.specs.Telling.{KnowsLast};
@@ -39,6 +40,9 @@ pub(crate) fn record_run<S: Stop, T: Terminal, W: Watch>(
     }) }
     ensures told { W.knows watch None
         → KnowsLast (W.knows result.1.watch) (state_of recorder.old.full) text.now result.1.outcome }
+    ensures visits { (wanted : ℕ → ℕ → Bool) (from : ℕ)
+        → W.follows watch (wanted_in (state_of recorder.old.full) text.now wanted from) 0
+        → W.follows result.1.watch (wanted_in (state_of recorder.old.full) text.now wanted from) result.1.outcome.steps }
 {
     meaning_laws();
     record_laws();

@@ -1,8 +1,9 @@
 //! A session: command strings, undo and redo, over one editor, with what leads from each whole state to the next.
-ghost use Rattle.std.specs.Prelude.{◌≡◌, ℕ, List, [], ◌<◌, ◌≤◌, length, vec_len, None, Some, IfOk, OnErr, OnOk, IsOk, ◌↔◌, IfSome, Ok, true, false};
+ghost use Rattle.std.specs.Prelude.{◌≡◌, ℕ, Bool, List, [], ◌<◌, ◌≤◌, length, vec_len, None, Some, IfOk, OnErr, OnOk, IsOk, ◌↔◌, IfSome, Ok, true, false};
 ghost use Rattle.std.specs.Option.{ForSome};
 ghost use Rattle.teco_exec.specs.Runs.{RunsWithin, StillSays};
 ghost use Rattle.teco_exec.specs.Options.{stop_left};
+ghost use Rattle.teco_exec.specs.Places.{wanted_in};
 ghost use Rattle.teco_exec.specs.Telling.{KnowsLast};
 ghost use Rattle.teco_store.specs.State.{state_of};
 ghost use Rattle.teco_io.specs.Terminal.{Shows};
@@ -260,7 +261,7 @@ impl Session {
 
     /// Runs a command string as [`Session::run`] does, by these options. Where it is asked to stop, it is noted as under a limit of the
     /// steps done. The watch is told where its run last stood: at the token or the fault where it stopped, or at the token whose step
-    /// failed. Of a string that is not begun it is told nothing.
+    /// failed. It is told of the place of each step too. Of a string that is not begun it is told nothing.
     pub fn run_with<S: Stop, T: Terminal, W: Watch>(
         &mut self,
         text: &[u8],
@@ -273,6 +274,10 @@ impl Session {
         ensures still { StillSays (S.answered options.entry.stop.now) (S.answered (stop_left options.exit)) }
         ensures told { W.knows watch None → IfSome (outcome_of result.0)
             (KnowsLast (W.knows result.1) (present (history_of self.old)) text.now) }
+        ensures visits { (wanted : ℕ → ℕ → Bool) (from : ℕ)
+            → W.follows watch (wanted_in (present (history_of self.old)) text.now wanted from) 0
+            → IfSome (outcome_of result.0) (λ outcome.
+            W.follows result.1 (wanted_in (present (history_of self.old)) text.now wanted from) outcome.steps) }
         ensures unbegun { is_unbegun result.0 ≡ true → result.1 ≡ watch }
     {
         if self.editor().done() {

@@ -7,6 +7,8 @@ pub mod Listing
 pub mod Loans
 pub mod OneByte
 pub mod Recordings
+pub mod Rooms
 pub mod Searches
+pub mod Slots
 pub mod Turned
 pub mod Turns

@@ -1,5 +1,5 @@
 -- A splice of one byte.
-use Rattle.std.proofs.Common.{◌≡◌, ℕ, ◌+◌, ◌<◌, ◌≤◌, cond, List, [], ◌∷◌, length, take, drop, get_or, refl, ap, arith}
+use Rattle.std.proofs.Common.{Bool, true, false, ◌==◌, ◌≡◌, ℕ, ◌+◌, ◌<◌, ◌≤◌, cond, List, [], ◌∷◌, length, take, drop, get_or, refl, ap, arith}
 use Rattle.std.proofs.lemmas.Bool.{ne_eqb}
 use Rattle.std.proofs.lemmas.List.{drop_more}
 use Rattle.teco_undo.specs.Holding.{held_apart}
@@ -18,6 +18,14 @@ pub no_byte : (xs : List ℕ) → length xs ≡ 0 → xs ≡ []
 no_byte [] e = refl
 no_byte (x ∷ xs) e = absurd (omega arith)
 
+at_most : (b : Bool) → cond b 0 1 ≤ 1
+at_most true = omega arith
+at_most false = omega arith
+
 -- More bytes than one are held apart.
 pub many_apart : (n : ℕ) → 1 < n → held_apart n ≡ 1
 many_apart n h = ap (λ b. cond b 0 1) (ne_eqb n 1 (λ e. absurd (omega arith)))
+
+-- At most one change is.
+pub one_apart : (n : ℕ) → held_apart n ≤ 1
+one_apart n = at_most (n == 1)

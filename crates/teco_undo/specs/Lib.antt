@@ -4,3 +4,4 @@ pub mod Holding
 pub mod Lending
 pub mod Listing
 pub mod RecordLaws
+pub mod Slots

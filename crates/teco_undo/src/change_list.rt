@@ -1,34 +1,27 @@
-//! Changes in order: what most of them hold lies in 24 bytes.
-ghost use Rattle.std.specs.Prelude.{◌≡◌, ◌↔◌, ◌+◌, ◌<◌, ◌≤◌, ◌++◌, ◌∷◌, [], length, option_to_list, slice_index_or, IsOk, IsSome, OnOk};
+//! Changes in order: what most of them hold lies in 12 bytes.
+ghost use Rattle.std.specs.Prelude.{◌≡◌, ◌↔◌, ◌+◌, ◌<◌, ◌≤◌, ◌^◌, ◌++◌, ◌∷◌, [], length, option_to_list, slice_index_or, IsOk, IsSome, OnOk};
 ghost use Rattle.std.proofs.Common.{set};
-ghost use Rattle.teco_store.specs.ChangeView.{small_turn, IsHere};
+ghost use Rattle.teco_store.specs.ChangeView.{small_turn};
 ghost use Rattle.teco_store.specs.Turn.{held_by, body_after, turn_after, note_after, full_after, Stands, FitsFull};
 ghost use Rattle.teco_store.specs.Kinds.{kind_of, way_back, ChangesOnly};
 ghost use Rattle.teco_undo.specs.Listing.{no_note};
+ghost use Rattle.teco_undo.specs.Slots.{FitsSlot};
 ghost use Rattle.teco_store.specs.State.{Body};
 
+use crate::slot::{Slot, SlotValue, halves_of};
 use std::alloc::Global;
 use std::marker::Model;
 use teco_core::NoMemory;
-use teco_store::change::{PartChange, SmallChange};
+use teco_store::change::{PartChange, PartValue, SmallChange};
 use teco_store::{Change, ChangeKind, Editor, change_laws};
-
-/// A change with the steps that were done before it was noted: what it holds, or the place of what is held apart.
-#[derive(Clone, Copy)]
-pub(crate) struct Slot {
-    step: u64,
-    small: SmallChange,
-}
-
-const _: () = prove!(size_of::<Slot>() <= 24);
 
 /// Changes, in the order in which they were made.
 ///
-/// One of a number, of the pointer, of a flag or of a byte takes 24 bytes. What is larger is held apart. A clause sees them as the changes, and how
-/// many more have room.
+/// One of a number, of the pointer, of a flag or of a byte takes 12 bytes. What is larger is held apart, and so is what was noted after 2^32
+/// steps. A clause sees them as the changes, and how many more have room.
 pub struct ChangeList {
     slots: Vec<Slot>,
-    apart: Vec<PartChange>,
+    apart: Vec<Change>,
 }
 
 // Its parts go here, and a crate that lets changes go calls this.
@@ -71,7 +64,11 @@ impl ChangeList {
         requires { i < length self.now.items }
         ensures { result ≡ (slice_index_or self.now.items i no_note).step }
     {
-        self.slots[i].step
+        let slot = self.slots[i];
+        match slot.small() {
+            SmallChange::HeldApart(place) => self.apart[place].step(),
+            _ => u64::from(slot.step),
+        }
     }
 
     /// The bytes of the text of a change, if it has one.
@@ -79,7 +76,7 @@ impl ChangeList {
         requires { i < length self.now.items }
         ensures { result ≡ held_by (slice_index_or self.now.items i no_note).turn }
     {
-        match self.slots[i].small {
+        match self.slots[i].small() {
             SmallChange::HeldApart(place) => self.apart[place].held(),
             SmallChange::InsertByte { .. } => 1,
             _ => 0,
@@ -98,7 +95,7 @@ impl ChangeList {
             → kind_of (turn_after (slice_index_or self.now.items i no_note).turn b) ≡ way_back result }
     {
         change_laws();
-        match self.slots[i].small {
+        match self.slots[i].small() {
             SmallChange::HeldApart(place) => self.apart[place].kind(),
             small => small.kind(),
         }
@@ -113,9 +110,18 @@ impl ChangeList {
         ensures items { self.new.items ≡ set self.old.items i
             (note_after (slice_index_or self.old.items i no_note) editor.old.body) }
     {
-        match self.slots[i].small {
+        // This shows that what the editor holds is within its limits.
+        let _shown = editor.shown();
+        let slot = self.slots[i];
+        match slot.small() {
             SmallChange::HeldApart(place) => self.apart[place].turn(editor),
-            small => self.slots[i].small = editor.put_small(small),
+            small => {
+                let value = SlotValue::of(editor.put_small(small));
+                self.slots[i] = Slot {
+                    step: slot.step,
+                    value,
+                };
+            }
         }
     }
 
@@ -131,17 +137,25 @@ impl ChangeList {
         self.apart.reserve(apart)
     }
 
-    /// Notes a change whose value lies in it, at a place that was found. Takes no memory.
+    /// Notes a change of a kind that has slots, at a place that was found. After 2^32 steps it is held apart. Takes no memory.
     #[inline(always)]
     pub(crate) fn push(&mut self, step: u64, small: SmallChange)
         requires spare { 0 < self.old.spare }
-        requires here { IsHere small }
+        requires apart { 2 ^ 32 ≤ step → 0 < self.old.apart }
+        requires fits { FitsSlot small }
         ensures items { self.new.items
             ≡ self.old.items ++ record { step = step; turn = small_turn small } ∷ [] }
         ensures spare { self.new.spare + 1 ≡ self.old.spare }
-        ensures apart { self.new.apart ≡ self.old.apart }
+        ensures apart { step < 2 ^ 32 → self.new.apart ≡ self.old.apart }
+        ensures late { 2 ^ 32 ≤ step → self.new.apart + 1 ≡ self.old.apart }
     {
-        self.slots.push_reserved(Slot { step, small });
+        if step < 4_294_967_296 {
+            let value = SlotValue::of(small);
+            let step = step as u32;
+            self.slots.push_reserved(Slot { step, value });
+        } else {
+            self.push_apart(step, PartChange::new(PartValue::Small(small)));
+        }
     }
 
     /// Notes a change that is held apart, at places that were found. Takes no memory.
@@ -152,9 +166,9 @@ impl ChangeList {
         ensures spare { self.new.spare + 1 ≡ self.old.spare }
         ensures apart { self.new.apart + 1 ≡ self.old.apart }
     {
-        let small = SmallChange::HeldApart(self.apart.len());
-        self.apart.push_reserved(part);
-        self.slots.push_reserved(Slot { step, small });
+        let (high, value) = halves_of(self.apart.len());
+        self.apart.push_reserved(Change::new(step, part));
+        self.slots.push_reserved(Slot { step: high, value });
     }
 
     /// Takes off the last change, if there is one. Takes no memory.
@@ -166,13 +180,13 @@ impl ChangeList {
         let Some(slot) = self.slots.pop() else {
             return None;
         };
-        match slot.small {
+        match slot.small() {
             SmallChange::HeldApart(_) => match self.apart.pop() {
-                Some(part) => Some(Change::new(slot.step, part)),
+                Some(change) => Some(change),
                 // The last of those held apart is there, by what always holds of the list.
                 None => unreachable!(),
             },
-            small => Some(Change::small(slot.step, small)),
+            small => Some(Change::small(u64::from(slot.step), small)),
         }
     }
 

@@ -5,6 +5,7 @@ mod change_list;
 mod held;
 mod laws;
 mod recorder;
+mod slot;
 mod turning;
 
 pub use change_list::ChangeList;

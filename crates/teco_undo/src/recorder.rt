@@ -1,9 +1,10 @@
 //! A desk that notes each change, so that it can be turned back.
-ghost use Rattle.std.specs.Prelude.{◌≡◌, ◌+◌, ◌<◌, ◌≤◌, length, [], take, IfOk, IsOk, MatchOption, OnOk, OnErr};
+ghost use Rattle.std.specs.Prelude.{◌≡◌, ℕ, ◌+◌, ◌<◌, ◌≤◌, ◌^◌, length, [], take, IfOk, IsOk, MatchOption, OnOk, OnErr};
 ghost use Rattle.std.specs.Vec.{vec_capacity};
 ghost use Rattle.teco_undo.specs.Holding.{held_apart};
-ghost use Rattle.teco_store.specs.ChangeView.{small_turn, turn_of, HasRoom, IsHere};
+ghost use Rattle.teco_store.specs.ChangeView.{small_turn, turn_of, HasRoom};
 ghost use Rattle.teco_undo.specs.Entry.{weight};
+ghost use Rattle.teco_undo.specs.Slots.{HasSlot};
 ghost use Rattle.teco_undo.specs.Follows.{Follows, FollowsAfterChanges, StillFollows, with_note};
 ghost use Rattle.teco_store.specs.State.{IsSound, state_of};
 ghost use Rattle.teco_store.specs.Trail.{Trail};
@@ -33,10 +34,25 @@ pub struct Recorder {
 
 impl Model for Recorder {
     ghost use Rattle.teco_undo.specs.Follows.{Recording};
+    ghost use Rattle.teco_undo.specs.Listing.{spare_after};
 
     ghost Value = { Recording };
 
-    ghost view = { λ r. record { full = r.editor; notes = r.entry.items; done = r.done; spare = r.entry.spare; apart = r.entry.apart } };
+    ghost view = { λ r. record { full = r.editor; notes = r.entry.items; done = r.done; spare = spare_after r.done r.entry; apart = r.entry.apart } };
+}
+
+// How many places so many changes take among those that are held apart, which are all of them from 2^32 steps on.
+#[inline(always)]
+fn places_apart(done: u64, changes: usize, apart: usize) -> usize
+    ensures enough { apart ≤ result }
+    ensures late { 2 ^ 32 ≤ done → changes ≤ result }
+    ensures least { (n : ℕ) → apart ≤ n → (2 ^ 32 ≤ done → changes ≤ n) → result ≤ n }
+{
+    if done >= 4_294_967_296 && apart < changes {
+        changes
+    } else {
+        apart
+    }
 }
 
 impl Recorder {
@@ -109,7 +125,8 @@ impl Recorder {
     {
         // This shows that what the editor holds is within its limits.
         let _shown = self.editor.shown();
-        self.entry.reserve(changes, apart)
+        let places = places_apart(self.done, changes, apart);
+        self.entry.reserve(changes, places)
     }
 
     // Makes room for a text of `len` bytes.
@@ -196,15 +213,17 @@ impl Recorder {
     #[inline(always)]
     fn note(&mut self, small: SmallChange)
         requires spare { 0 < self.old.spare }
-        requires here { IsHere small }
+        requires here { HasSlot small }
         requires fits { FitsFull (small_turn small) self.old.full }
         requires rises { self.old.full.body.output ≤ (body_after (small_turn small) self.old.full.body).output }
         ensures full { self.new.full ≡ full_after (small_turn small) self.old.full }
         ensures sound { IsSound self.new.full.room (length self.new.full.stored) self.new.full.body }
         ensures spare { self.new.spare + 1 ≡ self.old.spare }
-        ensures apart { self.new.apart ≡ self.old.apart }
+        ensures apart { (k : ℕ) → k ≤ self.new.spare → k ≤ self.old.apart → k ≤ self.new.apart }
         ensures goes { FollowsAfterChanges (weight (small_turn small) self.old.full.body) 1 self.old self.new }
     {
+        // This shows that what the editor holds is within its limits.
+        let _shown = self.editor.shown();
         let held = self.editor.put_small(small);
         self.entry.push(self.done, held);
     }

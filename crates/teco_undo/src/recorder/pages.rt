@@ -57,8 +57,8 @@ impl Recorder {
         self.editor.store_upto(from, upto)
     }
 
-    // Finds room for so many changes, and what holds the page in the buffer, which `len` bytes are to replace: its place in the
-    // input, or memory.
+    // Finds room for so many changes, two of them held apart, and what holds the page in the buffer, which `len` bytes are to replace:
+    // its place in the input, or memory.
     pub(super) fn hold_page(
         &mut self,
         changes: usize,
@@ -71,16 +71,16 @@ impl Recorder {
         ensures stored { self.new.full.stored ≡ self.old.full.stored }
         ensures held { IfOk result (CanHold self.new.full.body 0 there len) }
         ensures spare { OnOk result (changes ≤ self.new.spare) }
-        ensures apart { OnOk result (1 ≤ self.new.apart) }
+        ensures apart { OnOk result (2 ≤ self.new.apart) }
         ensures room { OnOk result (len ≤ self.new.full.room) }
         ensures sound { IsSound self.new.full.room (length self.new.full.stored) self.new.full.body }
         ensures keeps { StillFollows self.old self.new }
     {
         if let Some(from) = self.editor.place_of_page() {
-            self.find_room(changes, 1, len)?;
+            self.find_room(changes, 2, len)?;
             return Ok(Held::Input(from));
         }
-        let held = self.find_memory(changes, 1, there + len, len)?;
+        let held = self.find_memory(changes, 2, there + len, len)?;
         Ok(Held::Memory(held))
     }
 
@@ -140,7 +140,7 @@ impl Recorder {
         held: Held,
     )
         requires spare { 2 ≤ self.old.spare }
-        requires apart { 0 < self.old.apart }
+        requires apart { 2 ≤ self.old.apart }
         requires span { IsPageSpan span self.old.full.body }
         requires held { CanHold self.old.full.body at there (length (page self.old.full.body)) held }
         requires there { at + there ≤ length self.old.full.body.text }
@@ -159,10 +159,10 @@ impl Recorder {
         let from = self.editor().place();
         let place = from + len + usize::from(form_feed);
         self.put_input(from, len, at, there, pointer, held);
-        self.note(SmallChange::Pages {
+        self.note_apart(PartValue::Small(SmallChange::Pages {
             place: place as u32,
             end: end as u32,
             form_feed,
-        });
+        }));
     }
 }

@@ -1,8 +1,9 @@
 //! The calls of a desk, each of which notes what it changes.
 ghost use Rattle.std.specs.Prelude.{◌≡◌, ◌<◌, ◌≤◌, length, IsOk, OnErr, OnOk};
-ghost use Rattle.teco_store.specs.ChangeView.{small_turn, turn_of, HasRoom, IsHere};
+ghost use Rattle.teco_store.specs.ChangeView.{small_turn, turn_of, HasRoom};
 ghost use Rattle.teco_undo.specs.Entry.{weight};
 ghost use Rattle.teco_undo.specs.Follows.{Follows, StillFollows};
+ghost use Rattle.teco_undo.specs.Slots.{HasSlot};
 ghost use Rattle.teco_store.specs.State.{IsSound, state_of};
 ghost use Rattle.teco_store.specs.Trail.{Trail, moved};
 ghost use Rattle.teco_store.specs.Turn.{body_after, full_after, FitsFull};
@@ -19,7 +20,7 @@ impl Recorder {
     // Finds room for one change whose value lies in it, and makes it.
     #[inline(always)]
     fn change(&mut self, small: SmallChange) -> Result<(), Refused>
-        requires here { IsHere small }
+        requires here { HasSlot small }
         requires fits { IsSound self.old.full.room (length self.old.full.stored) self.old.full.body
             → FitsFull (small_turn small) self.old.full }
         requires rises { self.old.full.body.output ≤ (body_after (small_turn small) self.old.full.body).output }
@@ -191,7 +192,7 @@ impl Desk for Recorder {
         }
         let pointer = editor.pointer();
         let end = editor.shown();
-        let held = self.find_memory(2, 1, span.len, there + span.len)?;
+        let held = self.find_memory(2, 2, span.len, there + span.len)?;
         self.bring_page(span, there, 0, pointer, end, Held::Memory(held));
         Ok(())
     }
@@ -220,13 +221,13 @@ impl Desk for Recorder {
         };
         let place = editor.place();
         let flag = editor.flag();
-        self.reserve(1, 0)?;
+        self.reserve(1, 1)?;
         self.store_part(from, to, form_feed)?;
-        self.note(SmallChange::Pages {
+        self.note_apart(PartValue::Small(SmallChange::Pages {
             place: place as u32,
             end: end as u32,
             form_feed: flag,
-        });
+        }));
         Ok(())
     }
 
@@ -275,11 +276,11 @@ impl Desk for Recorder {
         let held = self.hold_page(3, there, 0)?;
         self.store_upto(held.place(), over)?;
         self.put_input(0, 0, 0, there, 0, held);
-        self.note(SmallChange::Pages {
+        self.note_apart(PartValue::Small(SmallChange::Pages {
             place: over as u32,
             end: end as u32,
             form_feed: false,
-        });
+        }));
         self.note(SmallChange::Done(true));
         Ok(())
     }

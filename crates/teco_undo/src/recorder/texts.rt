@@ -1,5 +1,5 @@
 //! The text of a search is noted, with the one that it takes the place of.
-ghost use Rattle.std.specs.Prelude.{◌≡◌, ◌+◌, ◌≤◌, length, option_map, option_to_list};
+ghost use Rattle.std.specs.Prelude.{◌≡◌, ℕ, ◌+◌, ◌≤◌, length, option_map, option_to_list};
 ghost use Rattle.teco_undo.specs.Follows.{FollowsAfterChanges};
 ghost use Rattle.teco_store.specs.Search.{fresh_load, length_of, text_after};
 ghost use Rattle.teco_store.specs.State.{IsSound};
@@ -33,7 +33,8 @@ impl Recorder {
         } }
         ensures sound { IsSound self.new.full.room (length self.new.full.stored) self.new.full.body }
         ensures spare { self.old.spare ≤ self.new.spare + 2 }
-        ensures apart { self.new.apart + length (option_to_list text) ≡ self.old.apart }
+        ensures apart { (k : ℕ) → k ≤ self.new.spare
+            → k + length (option_to_list text) ≤ self.old.apart → k ≤ self.new.apart }
         ensures goes { FollowsAfterChanges (fresh_load self.old.full.body.last_search
             (option_map (λ v. v.items) text)) 2 self.old self.new }
     {

@@ -58,3 +58,7 @@ returns-clause-ran g c =
 
 pub returns-clause-told : goal.returns-clause-told
 returns-clause-told g c knows = rw (sym c.begin.ensures.state) (c.run_with-ran.ensures.told knows)
+
+pub returns-clause-visits : goal.returns-clause-visits
+returns-clause-visits g c wanted from follows =
+    rw (sym c.begin.ensures.state) (c.run_with-ran.ensures.visits wanted from (rw c.begin.ensures.state follows))

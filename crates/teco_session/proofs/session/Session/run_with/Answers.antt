@@ -74,6 +74,15 @@ returns-in_default-clause-told g c knows = tt
 pub returns-then-is_err-clause-told : goal.returns-then-is_err-clause-told
 returns-then-is_err-clause-told g c knows = tt
 
+pub returns-then-done-clause-visits : goal.returns-then-done-clause-visits
+returns-then-done-clause-visits g c wanted from follows = tt
+
+pub returns-in_default-clause-visits : goal.returns-in_default-clause-visits
+returns-in_default-clause-visits g c wanted from follows = tt
+
+pub returns-then-is_err-clause-visits : goal.returns-then-is_err-clause-visits
+returns-then-is_err-clause-visits g c wanted from follows = tt
+
 -- A string that is not begun changes nothing.
 pub returns-then-done-clause-run : goal.returns-then-done-clause-run
 returns-then-done-clause-run g c =
@@ -163,6 +172,10 @@ returns-clause-run g c =
 pub returns-clause-told : goal.returns-clause-told
 returns-clause-told g c knows = rw (sym (state_now g c)) (c.record_run-changes.ensures.told knows)
 
+pub returns-clause-visits : goal.returns-clause-visits
+returns-clause-visits g c wanted from follows =
+    rw (sym (state_now g c)) (c.record_run-changes.ensures.visits wanted from (rw (state_now g c) follows))
+
 -- With a depth of 0 nothing is noted.
 lent_now : (g : given.Over) (c : goal.After-result-1 g) → state_of c.editor_mut-editor.result.now ≡ present (history_of c.args.self.now)
 lent_now g c =
@@ -205,3 +218,7 @@ returns-then-keeps_none-clause-run g c =
 
 pub returns-then-keeps_none-clause-told : goal.returns-then-keeps_none-clause-told
 returns-then-keeps_none-clause-told g c knows = rw (sym (lent_now g c)) (c.run_with-ran.ensures.told knows)
+
+pub returns-then-keeps_none-clause-visits : goal.returns-then-keeps_none-clause-visits
+returns-then-keeps_none-clause-visits g c wanted from follows =
+    rw (sym (lent_now g c)) (c.run_with-ran.ensures.visits wanted from (rw (lent_now g c) follows))

@@ -4,9 +4,9 @@ use Rattle.teco_undo.proofs.Listing.{apart_within, seen_apart}
 use Rattle.teco_undo.proofs.change_list.ChangeList.held.Goals as goal
 
 pub index-requires-in-HeldApart : goal.index-requires-in-HeldApart
-index-requires-in-HeldApart c = let lt = apart_within c.self.inside c.args.self.now c.args.i c.in-HeldApart.place c.index.result.now c.self.view_is c.self.invariant c.requires c.index.ensures (search rules) in search (rules, lt)
+index-requires-in-HeldApart c = let lt = apart_within c.self.inside c.args.self.now c.args.i c.in-HeldApart.place c.index.result.now c.self.view_is c.self.invariant c.requires c.index.ensures (sym c.small.ensures ∙ c.in-HeldApart.is) in search (rules, lt)
 
 pub returns-in-HeldApart : goal.returns-in-HeldApart
 returns-in-HeldApart c =
-    let seen = seen_apart c.self.inside c.args.self.now c.args.i c.in-HeldApart.place c.index.result.now c.index-in-HeldApart.result.now c.self.view_is c.self.invariant c.requires c.index.ensures (search rules) c.index-in-HeldApart.ensures in
+    let seen = seen_apart c.self.inside c.args.self.now c.args.i c.in-HeldApart.place c.index.result.now c.index-in-HeldApart.result.now c.self.view_is c.self.invariant c.requires c.index.ensures (sym c.small.ensures ∙ c.in-HeldApart.is) c.index-in-HeldApart.ensures in
     c.held.ensures ∙ ap (λ (n : Note). held_by n.turn) (sym seen)

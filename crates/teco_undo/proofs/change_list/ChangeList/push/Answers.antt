@@ -1,6 +1,10 @@
-use Rattle.std.proofs.Common.{length}
+use Rattle.std.proofs.Common.{length, subst, sym}
+use Rattle.teco_store.specs.ChangeView.{IsHere}
 use Rattle.teco_undo.proofs.Listing.{in_place-push_here}
+use Rattle.teco_undo.proofs.Slots.{fits_here}
 use Rattle.teco_undo.proofs.change_list.ChangeList.push.Goals as goal
 
 pub invariant_of-self : goal.invariant_of-self
-invariant_of-self c = rw c.push_reserved.ensures.items (in_place-push_here 0 c.self.inside.slots.items (length c.self.inside.apart.items) _ c.self.invariant c.requires.here)
+invariant_of-self c =
+    rw c.push_reserved.ensures.items (in_place-push_here 0 c.self.inside.slots.items (length c.self.inside.apart.items) _ c.self.invariant
+    (subst IsHere (sym (c.of-value.ensures _)) (fits_here c.args.small c.requires.fits)))

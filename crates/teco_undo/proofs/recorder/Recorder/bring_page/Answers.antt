@@ -16,5 +16,5 @@ pub returns-clause-goes : goal.returns-clause-goes
 returns-clause-goes c =
     let n = c.args.there + c.args.span.len in
     let len = c.requires.span.len in
-    goes_more c.args.self.now c.note.new.self (n + 0) (c.args.there + length (page c.args.self.now.full.body)) 2 2 (omega arith) (omega arith)
-    (goes_then c.args.self.now c.put_input.new.self c.note.new.self n 0 1 1 c.put_input.ensures.goes c.note.ensures.goes)
+    goes_more c.args.self.now c.note_apart.new.self (n + 0) (c.args.there + length (page c.args.self.now.full.body)) 2 2 (omega arith) (omega arith)
+    (goes_then c.args.self.now c.put_input.new.self c.note_apart.new.self n 0 1 1 c.put_input.ensures.goes c.note_apart.ensures.goes)

@@ -4,6 +4,7 @@ use Rattle.teco_store.specs.State.{Full, IsSound}
 use Rattle.teco_store.specs.Turn.{Splice, full_after}
 use Rattle.teco_undo.proofs.Fitting.{splice_fits_seen}
 use Rattle.teco_undo.proofs.Recordings.{goes_noted}
+use Rattle.teco_undo.proofs.Rooms.{first_place, one_less_seen}
 use Rattle.teco_undo.proofs.recorder.Recorder.exchange.Goals as goal
 
 pub exchange-held-requires-clause-fits : goal.exchange-held-requires-clause-fits
@@ -25,3 +26,10 @@ returns-clause-sound c =
     let fits = (splice_fits_seen c.self.inside.editor c.args.self.now.full c.args.at c.args.there c.args.pointer c.args.ins.now (ap (λ (r : Recording). r.full) c.self.view_is)
     c.shown-shown.ensures.sound c.requires.there c.requires.lands c.requires.small c.requires.room).0 in
     subst (λ (x : Full). IsSound x.room (length x.stored) x.body) (sym c.exchange-held.ensures.editor) fits.1
+
+pub push_apart-requires-clause-spare : goal.push_apart-requires-clause-spare
+push_apart-requires-clause-spare c = first_place c.self.inside.done c.args.self.now.spare c.self.inside.entry (ap (λ (r : Recording). r.spare) c.self.view_is) c.requires.spare
+
+pub returns-clause-spare : goal.returns-clause-spare
+returns-clause-spare c =
+    one_less_seen c.self.inside.done c.args.self.now.spare c.self.inside.entry c.push_apart.new.self (ap (λ (r : Recording). r.spare) c.self.view_is) c.push_apart.ensures.spare (λ le. c.push_apart.ensures.apart)

@@ -1,4 +1,4 @@
-use Rattle.std.proofs.Common.{arith, option_map, rules, ◌+◌}
+use Rattle.std.proofs.Common.{arith, option_map, rules, ◌+◌, length, option_to_list, ◌≡◌}
 use Rattle.teco_undo.specs.Follows.{FollowsAfterChanges}
 use Rattle.teco_store.specs.Search.{fresh_load}
 use Rattle.teco_undo.proofs.Recordings.{goes_more, goes_then}
@@ -11,3 +11,8 @@ returns-clause-goes c =
     let first : FollowsAfterChanges n 1 r c.match-text.self = search rules in
     goes_more r c.note.new.self (n + 0) n 2 2 (omega arith) (omega arith)
     (goes_then r c.match-text.self c.note.new.self n 0 1 1 first c.note.ensures.goes)
+
+pub returns-clause-apart : goal.returns-clause-apart
+returns-clause-apart c = λ k spare apart.
+    let mid : c.match-text.self.apart + length (option_to_list c.args.text) ≡ c.args.self.now.apart = search rules in
+    c.note.ensures.apart k spare (omega arith)

@@ -8,6 +8,7 @@ use Rattle.teco_undo.proofs.Fitting.{input_fits_seen}
 use Rattle.teco_store.proofs.Loans.{length-lent}
 use Rattle.teco_undo.proofs.Loans.{held_is_lent}
 use Rattle.teco_undo.proofs.Recordings.{goes_noted}
+use Rattle.teco_undo.proofs.Rooms.{first_place, one_less_seen}
 use Rattle.teco_undo.proofs.recorder.Recorder.put_input.Goals as goal
 
 pub exchange_input-held-requires-clause-fits : goal.exchange_input-held-requires-clause-fits
@@ -38,3 +39,10 @@ returns-in-Input-clause-full c =
     let f = c.args.self.now.full in
     let held : CanHold f.body c.args.at c.args.there c.args.count (Input c.in-Input.there_from) = search rules in
     c.note_apart.ensures.full ∙ ap (λ (k : ℕ). full_after (Splice k c.args.there c.args.pointer (lent f.body.input c.args.from c.args.count)) f) (sym held.0.0)
+
+pub push_apart-requires-clause-spare : goal.push_apart-requires-clause-spare
+push_apart-requires-clause-spare c = first_place c.self.inside.done c.args.self.now.spare c.self.inside.entry (ap (λ (r : Recording). r.spare) c.self.view_is) c.requires.spare
+
+pub returns-in-Memory-clause-spare : goal.returns-in-Memory-clause-spare
+returns-in-Memory-clause-spare c =
+    one_less_seen c.self.inside.done c.args.self.now.spare c.self.inside.entry c.push_apart.new.self (ap (λ (r : Recording). r.spare) c.self.view_is) c.push_apart.ensures.spare (λ le. c.push_apart.ensures.apart)

@@ -1,4 +1,4 @@
-use Rattle.std.proofs.Common.{ap, arith, length, ◌+◌, ◌∙◌}
+use Rattle.std.proofs.Common.{ap, arith, length, option_to_list, rules, ◌≤◌, ◌+◌, ◌∙◌}
 use Rattle.std.proofs.lemmas.Grind.{common_steps}
 use Rattle.std.proofs.lemmas.Result.{err_from_is_err_and}
 use Rattle.std.specs.Option.{option_copied}
@@ -6,6 +6,8 @@ use Rattle.teco_store.specs.Search.{fresh, note_load}
 use Rattle.teco_store.specs.State.{Body, Full, state_of}
 use Rattle.teco_undo.proofs.Recordings.{goes_call, goes_then}
 use Rattle.teco_undo.proofs.Searches.{fresh_load_noted}
+use Rattle.teco_undo.specs.Holding.{held_apart}
+use Rattle.teco_undo.proofs.OneByte.{one_apart}
 use Rattle.teco_undo.proofs.recorder.recording.RecorderDesk.note_replace.Goals as goal
 
 pub returns-in_err-held-clause-keeps : goal.returns-in_err-held-clause-keeps
@@ -30,3 +32,12 @@ returns-in_err-text-clause-big c = grind (arith, common_steps)
 
 pub returns-in_err-held-clause-big : goal.returns-in_err-held-clause-big
 returns-in_err-held-clause-big c = grind (arith, common_steps)
+
+pub replace-requires-clause-apart : goal.replace-requires-clause-apart
+replace-requires-clause-apart c =
+    let bytes = c.args.del + length c.args.ins.now in
+    let few = one_apart bytes in
+    let found : 3 ≤ c.find_held.new.self.spare = search rules in
+    let apart : length (option_to_list c.in_ok-text.text) + held_apart bytes ≤ c.find_held.new.self.apart = search rules in
+    let left = c.note_result.ensures.spare in
+    c.note_result.ensures.apart (held_apart bytes) (omega arith) (omega arith)

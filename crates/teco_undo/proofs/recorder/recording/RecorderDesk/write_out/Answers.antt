@@ -8,5 +8,5 @@ returns-clause-ok c = grind (arith, common_steps)
 
 pub returns-clause-follows : goal.returns-clause-follows
 returns-clause-follows c =
-    goes_once c.args.self.now c.store_part.new.self c.note.new.self 0 0
-    (keeps_then c.args.self.now c.reserve.new.self c.store_part.new.self c.reserve.ensures.keeps c.store_part.ensures.keeps) c.note.ensures.goes refl
+    goes_once c.args.self.now c.store_part.new.self c.note_apart.new.self 0 0
+    (keeps_then c.args.self.now c.reserve.new.self c.store_part.new.self c.reserve.ensures.keeps c.store_part.ensures.keeps) c.note_apart.ensures.goes refl
