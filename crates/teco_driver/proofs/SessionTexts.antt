@@ -1,10 +1,20 @@
 -- A line that is put piece by piece.
-use Rattle.std.proofs.Common.{◌≡◌, ◌∙◌, ◌++◌, ℕ, List, Result, Ok, Err, ap, append_assoc}
-use Rattle.std.specs.Prelude.{OnOk, if◌then◌else◌, is_ok}
+use Rattle.std.proofs.Common.{◌≡◌, ◌∙◌, ◌++◌, ◌<◌, ℕ, List, [], Result, Ok, Err, ap, append_assoc, codes, sym}
+use Rattle.std.proofs.lemmas.Bool.{lt-ltb}
+use Rattle.std.specs.Prelude.{OnOk, decimal, if◌then◌else◌, is_ok}
+use Rattle.teco_driver.specs.SessionLines.{again_words}
 
 -- five texts, one behind another
 pub five_joined : (one two three four five : List ℕ) → one ++ (two ++ (three ++ (four ++ five))) ≡ one ++ two ++ three ++ four ++ five
 five_joined one two three four five = simp append_assoc
+
+-- what is told of many steps
+pub again_told : (out file shown : List ℕ) (steps : ℕ) → 10000000 < steps → shown ≡ file
+    → out ≡ codes "teco: " ++ (shown ++ (codes ": runs " ++ (decimal steps ++ codes " steps again\n"))) → out ≡ again_words file steps
+again_told out file shown steps many same is =
+    is ∙ ap (λ (name : List ℕ). codes "teco: " ++ (name ++ (codes ": runs " ++ (decimal steps ++ codes " steps again\n")))) same
+    ∙ five_joined (codes "teco: ") file (codes ": runs ") (decimal steps) (codes " steps again\n")
+    ∙ sym (ap (λ b. if b then codes "teco: " ++ file ++ codes ": runs " ++ decimal steps ++ codes " steps again\n" else []) (lt-ltb 10000000 steps many))
 
 -- words around a name, then a count, then the end
 pub line_with_count : (out before name behind count end first mid new : List ℕ) → first ≡ out ++ (before ++ (name ++ behind)) → mid ≡ first ++ count

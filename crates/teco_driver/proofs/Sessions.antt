@@ -1,6 +1,6 @@
 -- A run over an input whose session is kept, from what its parts have done.
 use Rattle.teco_io.specs.declared.source.Source.{Ghosts as SourceView}
-use Rattle.std.proofs.Common.{◌≡◌, ◌⊎◌, ◌∙◌, inl, inr, ℕ, List, Bool, true, false, refl, sym, subst, ap, Result, Ok, Err, String, Global, codes, IfOk, OnErr}
+use Rattle.std.proofs.Common.{◌≡◌, ◌⊎◌, ◌∙◌, inl, inr, ℕ, List, Bool, true, false, refl, sym, subst, ap, Result, Ok, Err, String, Global, codes, IfErr, IfOk, OnErr}
 use Rattle.std.specs.String.{string_bytes}
 use Rattle.teco_cli.specs.StreamNames.{is_standard_input, is_standard_output}
 use Rattle.teco_cli.specs.Options.{suffix_of}
@@ -21,6 +21,9 @@ use Rattle.teco_fs.specs.Refusing.{Tells}
 use Rattle.teco_fs.specs.State.{DiskState}
 use Rattle.teco_io.specs.Terminal.{Screen, Shows}
 use Rattle.teco_journal.specs.Heads.{Beginning}
+use Rattle.teco_recorder.specs.Again.{HeardBy, HearsHeld, OpensHeard, steps_again}
+use Rattle.teco_recorder.specs.declared.fault.OpenFault.{OpenFault}
+use Rattle.teco_recorder.specs.declared.fault.OpenFault.TheVariants.{NoFile, NoMemory, Version, Head, Changed, Settings, Replay, Input}
 use Rattle.teco_recorder.specs.Opening.{OpenSession, Opens, StaysClosed}
 use Rattle.teco_recorder.specs.declared.opening.Asked.{Asked}
 use Rattle.teco_recorder.specs.Recording.{IsRecorded, KeptFile, recording}
@@ -60,6 +63,67 @@ opens_bare start asked name old new is o = record {
   records_are = o.records_are;
   input = o.input;
 }
+
+pub opens_heard_bare : (unheard : Type 0) (heard : ℕ → Type 0) (start : Beginning) (asked : Asked) (name : List ℕ) (old new : DiskState)
+    (is : OpenSession) → OpensHeard unheard heard start asked name old new is → OpensHeard unheard heard start asked name (bare old) (bare new) is
+unfolding opens_bare
+opens_heard_bare unheard heard start asked name old new is o = record {
+  opens = opens_bare start asked name old new is o.opens;
+  is_heard = o.is_heard;
+}
+
+-- What was heard by why, if more is known of each.
+pub heard_as : (fault : OpenFault) {unheard heard untold told : Type 0} → (unheard → untold) → (heard → told) → HeardBy fault unheard heard
+    → HeardBy fault untold told
+heard_as (NoFile reason) f g (inl none) = inl (f none)
+heard_as (NoFile reason) f g (inr it) = inr (g it)
+heard_as NoMemory f g (inl none) = inl (f none)
+heard_as NoMemory f g (inr it) = inr (g it)
+heard_as Version f g none = f none
+heard_as Head f g none = f none
+heard_as (Changed line) f g none = f none
+heard_as Settings f g none = f none
+heard_as (Replay fault) f g it = g it
+heard_as Input f g it = g it
+
+pub held_bare : (heard told : ℕ → Type 0) (name : List ℕ) (old : DiskState) → ((steps : ℕ) → heard steps → told steps) → HearsHeld heard name old
+    → HearsHeld told name (bare old)
+held_bare heard told name old so (events, held, it) = (
+  events,
+  record { beginning = held.beginning; torn = held.torn; had = held.had; lines = held.lines; there = held.there },
+  so (steps_again events) it,
+)
+
+pub shut_heard : (fault : OpenFault) (unheard : Type 0) (heard : ℕ → Type 0) (name : List ℕ) (old : DiskState)
+    → HeardBy fault unheard (HearsHeld heard name old) → HeardBy fault unheard (HearsHeld heard name (bare old))
+shut_heard fault unheard heard name old it =
+    heard_as fault {unheard = unheard} {heard = HearsHeld heard name old} {untold = unheard} {told = HearsHeld heard name (bare old)} (λ same. same)
+    (held_bare heard heard name old (λ steps same. same)) it
+
+-- What one hears is told, of a session that was opened and of one that was not.
+pub told_opened : {T F : Type 0} (r : Result T F) (view : T → OpenSession) (unheard untold : Type 0) (heard told : ℕ → Type 0) (start : Beginning)
+    (asked : Asked) (one name : List ℕ) (old new : DiskState) → (unheard → untold) → ((steps : ℕ) → heard steps → told steps) → one ≡ name
+    → IfOk r (λ opened. OpensHeard unheard heard start asked one old new (view opened))
+    → IfOk r (λ opened. OpensHeard untold told start asked name old new (view opened))
+told_opened (Ok opened) view unheard untold heard told start asked one name old new f g same o =
+    subst (λ (n : List ℕ). OpensHeard untold told start asked n old new (view opened)) same (record {
+      opens = o.opens;
+      is_heard = elim o.is_heard [ inl none ↦ inl (f none.0, none.1) | inr it ↦ inr (g (steps_again o.opens.events) it) ];
+    })
+told_opened (Err fault) view unheard untold heard told start asked one name old new f g same o = tt
+
+held_told : (heard told : ℕ → Type 0) (name : List ℕ) (old : DiskState) → ((steps : ℕ) → heard steps → told steps) → HearsHeld heard name old
+    → HearsHeld told name old
+held_told heard told name old so (events, held, it) = (events, held, so (steps_again events) it)
+
+pub told_shut : {T : Type 0} (r : Result T OpenFault) (view : T → OpenSession) (unheard untold : Type 0) (heard told : ℕ → Type 0)
+    (start : Beginning) (asked : Asked) (one name : List ℕ) (old new : DiskState) → (unheard → untold)
+    → ((steps : ℕ) → heard steps → told steps) → one ≡ name → IfOk r (λ opened. OpensHeard unheard heard start asked one old new (view opened))
+    → IfErr r (λ fault. HeardBy fault unheard (HearsHeld heard one old)) → IfErr r (λ fault. HeardBy fault untold (HearsHeld told name old))
+told_shut (Ok opened) view unheard untold heard told start asked one name old new f g same o h = tt
+told_shut (Err fault) view unheard untold heard told start asked one name old new f g same o h =
+    subst (λ (n : List ℕ). HeardBy fault untold (HearsHeld told n old)) same
+    (heard_as fault {unheard = unheard} {heard = HearsHeld heard one old} {untold = untold} {told = HearsHeld told one old} f (held_told heard told one old g) h)
 
 pub closed_bare : (start : Beginning) (name : List ℕ) (old new : DiskState) → StaysClosed start name old new → StaysClosed start name (bare old) (bare new)
 closed_bare start name old new c = record { kept = c.kept; moments = c.moments; streams = c.streams }
@@ -103,6 +167,7 @@ module _ {D I S A T E : Type 0} (view : HostView D I S T) (errors : E → Screen
     input_is = file_still (is_standard_input name) (standard_input view.stream old.commands one) (standard_input view.stream old.commands other)
         (named_input (view.disk old.disk) (view.disk o.read) name) o.input apart o.input_is;
     length_is = o.length_is;
+    between = o.between;
     opens = o.opens;
     tells = o.tells;
   }
@@ -155,26 +220,31 @@ module _ {D I S A T E : Type 0} (view : HostView D I S T) (errors : E → Screen
   input_from_mid commands disk bytes is =
       is_input_from (view.disk old.disk) (view.disk mid) (view.disk disk) kept (standard_input view.stream old.commands commands) name (is_standard_input name) bytes is
 
-  unserved_from : (new : Host S A T D) (end : SessionEnd) → StaysUnserved view line name (with_disk old mid) new end → StaysUnserved view line name old new end
-  unserved_from new (Closed fault) s = record {
+  unserved_from : (new : Host S A T D) (told telling : E) (end : SessionEnd) → StaysUnserved view errors line name (with_disk old mid) new told telling end
+      → StaysUnserved view errors line name old new told telling end
+  unserved_from new told telling (Closed fault) s = record {
     read = s.read;
     input = s.input;
     keeps = keeps_after kept s.keeps;
     input_is = input_from_mid new.commands s.read s.input s.input_is;
     closed = s.closed;
+    tells = s.tells;
     still = s.still;
   }
-  unserved_from new (Ended end) s = record {
-    lacks = elim s.lacks [
-      | inl lacks ↦ inl (elim lacks [
-        | inl l ↦ inl (lacks_from (view.disk old.disk) (view.disk mid) (view.disk new.disk) kept (standard_input view.stream old.commands new.commands) name (is_standard_input name) end l)
-        | inr l ↦ inr (l.0, l.1, irregular_from (view.disk old.disk) (view.disk mid) (view.disk new.disk) kept (standard_input view.stream old.commands new.commands) name (is_standard_input name) l.2)
-      ])
-      | inr memory ↦ inr memory
-    ];
-    idle = (s.idle.0, keeps_after kept s.idle.1);
-  }
-  unserved_from new (Broken reason end) s = absurd s
+  unserved_from new told telling (Ended end) (s, untold) = (
+    record {
+      lacks = elim s.lacks [
+        | inl lacks ↦ inl (elim lacks [
+          | inl l ↦ inl (lacks_from (view.disk old.disk) (view.disk mid) (view.disk new.disk) kept (standard_input view.stream old.commands new.commands) name (is_standard_input name) end l)
+          | inr l ↦ inr (l.0, l.1, irregular_from (view.disk old.disk) (view.disk mid) (view.disk new.disk) kept (standard_input view.stream old.commands new.commands) name (is_standard_input name) l.2)
+        ])
+        | inr memory ↦ inr memory
+      ];
+      idle = (s.idle.0, keeps_after kept s.idle.1);
+    },
+    untold,
+  )
+  unserved_from new told telling (Broken reason end) s = absurd s
 
   kept_from : (given : CommandsSeen) (new : Host S A T D) (told telling : E) (is_broken : Bool) (end : Fate)
       → RunsKept view errors line name given (with_disk old mid) new told telling is_broken end → RunsKept view errors line name given old new told telling is_broken end
@@ -188,6 +258,7 @@ module _ {D I S A T E : Type 0} (view : HostView D I S T) (errors : E → Screen
       keeps = keeps_after kept r.opens.keeps;
       input_is = input_from_mid new.commands r.opens.read r.opens.input r.opens.input_is;
       length_is = r.opens.length_is;
+      between = r.opens.between;
       opens = r.opens.opens;
       tells = r.opens.tells;
     };
@@ -209,5 +280,5 @@ module _ {D I S A T E : Type 0} (view : HostView D I S T) (errors : E → Screen
 
   pub edits_kept_from : (given : CommandsSeen) (new : Host S A T D) (told telling : E) (end : SessionEnd)
       → EditsKept view errors line name given (with_disk old mid) new told telling end → EditsKept view errors line name given old new told telling end
-  edits_kept_from given new told telling end (inl s) = inl (unserved_from new end s.0, s.1, s.2)
+  edits_kept_from given new told telling end (inl s) = inl (unserved_from new told telling end s.0, s.1)
   edits_kept_from given new told telling end (inr r) = inr (runs_from given new told telling end r)

@@ -1,5 +1,5 @@
 -- What is told of the file that keeps a session.
-use Rattle.std.specs.Prelude.{ℕ, ◌==◌, ◌⊎◌, ◌&&◌, not, Bool, List, [], ◌++◌, Some, None, codes, decimal, if◌then◌else◌}
+use Rattle.std.specs.Prelude.{ℕ, ◌==◌, ◌⊎◌, ◌&&◌, not, Bool, List, [], ◌++◌, Some, None, codes, decimal, nat_lt, if◌then◌else◌}
 use Rattle.std.specs.String.{string_bytes}
 use Rattle.teco_cli.specs.Conflict.{are_awaited}
 use Rattle.teco_cli.specs.declared.line.Line.{Line}
@@ -29,6 +29,10 @@ count_words n one = if n == 1 then codes "1 " ++ one else decimal n ++ codes " "
 abbrev pub cut_words : List ℕ → ℕ → List ℕ
 cut_words file torn = if torn == 0 then []
     else codes "teco: " ++ file ++ codes ": a torn end is cut off, " ++ count_words torn (codes "byte") ++ codes "\n"
+
+-- Strings that took more than ten million steps are run again, which takes a while.
+abbrev pub again_words : List ℕ → ℕ → List ℕ
+again_words file steps = if nat_lt 10000000 steps then codes "teco: " ++ file ++ codes ": runs " ++ decimal steps ++ codes " steps again\n" else []
 
 -- One who types sees the star, and hears that a session goes on which has records.
 abbrev pub is_told_of : Line → ℕ → Bool

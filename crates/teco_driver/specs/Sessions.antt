@@ -12,7 +12,7 @@ use Rattle.teco_driver.specs.Given.{HostView, IsIdle, word_seen}
 use Rattle.teco_driver.specs.Paging.{page_lines_of}
 use Rattle.teco_driver.specs.Run.{Concludes, FinishesIn, Lacks, bounds_of, input_from, manner_of, named_input, replaces_input, standard_input}
 use Rattle.teco_driver.specs.Seen.{CommandsSeen, InputSeen, commands_seen}
-use Rattle.teco_driver.specs.SessionLines.{TellsOrLacks, fault_line, opening_lines, session_name, not_kept_line}
+use Rattle.teco_driver.specs.SessionLines.{TellsOrLacks, again_words, fault_line, opening_lines, session_name, not_kept_line}
 use Rattle.teco_driver.specs.declared.giving.Feed.{Feed}
 use Rattle.teco_driver.specs.declared.giving.Feed.TheVariants.{Stream, File}
 use Rattle.teco_driver.specs.declared.giving.Feed.TheVariants as feed
@@ -25,7 +25,9 @@ use Rattle.teco_fs.specs.Seen.{DiskSeen, KeepsDisk, KeepsStream}
 use Rattle.teco_fs.specs.State.{DiskState}
 use Rattle.teco_io.specs.Terminal.{Screen, Shows}
 use Rattle.teco_journal.specs.Heads.{Beginning}
-use Rattle.teco_recorder.specs.Opening.{OpenSession, Opens, StaysClosed}
+use Rattle.teco_recorder.specs.Again.{HeardBy, HearsHeld, OpensHeard}
+use Rattle.teco_recorder.specs.Opening.{OpenSession, StaysClosed}
+use Rattle.teco_recorder.specs.declared.fault.OpenFault.{OpenFault}
 use Rattle.teco_recorder.specs.declared.opening.Asked.{Asked}
 use Rattle.teco_recorder.specs.Recording.{IsRecorded, KeptFile, recording}
 use Rattle.teco_serve.specs.Ending.{output_of}
@@ -63,7 +65,11 @@ abbrev pub input_seen : {D I S A T : Type 0} → HostView D I S T → List ℕ �
 input_seen view name old commands disk = input_from (is_standard_input name) (standard_input view.stream old.commands commands)
     (named_input (view.disk old.disk) (view.disk disk) name)
 
--- The input was read, and the session of the file was opened over it: begun, or gone on with. Of that one line or two were told, or none.
+-- Before so many steps were run again it was told, if they were many.
+abbrev pub TellsAgain : {E : Type 0} → (E → Screen) → Line → E → E → ℕ → Type 0
+TellsAgain errors line told telling steps = TellsOrLacks (errors told) (errors telling) (again_words (session_name line) steps)
+
+-- The input was read, and the session of the file was opened over it: begun, or gone on with. Of that some lines were told, or none.
 pub record OpensOver {D I S A T E : Type 0} (view : HostView D I S T) (errors : E → Screen) (line : Line) (name : List ℕ)
     (old : Host S A T D) (commands : S) (disk : D) (told telling : E) (length_read : ℕ) (is : OpenSession) : Type 0 where
   pub read : D
@@ -71,16 +77,21 @@ pub record OpensOver {D I S A T E : Type 0} (view : HostView D I S T) (errors : 
   pub keeps : KeepsDisk (view.disk old.disk) (view.disk read)
   pub input_is : (input_seen view name old commands read).is_input input
   pub length_is : length_read ≡ length input
-  pub opens : Opens (origin_by line input) (asked_by line) (session_name line) (as_state (view.disk read)) (as_state (view.disk disk)) is
-  pub tells : TellsOrLacks (errors told) (errors telling) (opening_lines line is.torn is.records is.history.cursor)
+  pub between : E
+  pub opens : OpensHeard (between ≡ told) (TellsAgain errors line told between) (origin_by line input) (asked_by line) (session_name line)
+      (as_state (view.disk read)) (as_state (view.disk disk)) is
+  pub tells : TellsOrLacks (errors between) (errors telling) (opening_lines line is.torn is.records is.history.cursor)
 
--- The file could not be opened, or its session is not gone on with. Nothing that it told is lost.
-pub record StaysShut {D I S A T : Type 0} (view : HostView D I S T) (line : Line) (name : List ℕ) (old new : Host S A T D) : Type 0 where
+-- For this reason the file could not be opened, or its session is not gone on with. Nothing that it told is lost. That its strings are run
+-- again may have been told.
+pub record StaysShut {D I S A T E : Type 0} (view : HostView D I S T) (errors : E → Screen) (line : Line) (name : List ℕ)
+    (old new : Host S A T D) (told telling : E) (fault : OpenFault) : Type 0 where
   pub read : D
   pub input : List ℕ
   pub keeps : KeepsDisk (view.disk old.disk) (view.disk read)
   pub input_is : (input_seen view name old new.commands read).is_input input
   pub closed : StaysClosed (origin_by line input) (session_name line) (as_state (view.disk read)) (as_state (view.disk new.disk))
+  pub tells : HeardBy fault (telling ≡ told) (HearsHeld (TellsAgain errors line told telling) (session_name line) (as_state (view.disk read)))
   pub still : new.terminal ≡ old.terminal
 
 -- There is no input, or no memory for the run: why, by how it ends.
@@ -89,11 +100,12 @@ pub record HasNoInput {D I S A T : Type 0} (view : HostView D I S T) (line : Lin
   pub lacks : Lacks line.in_place (input_seen view name old new.commands new.disk) end ⊎ (end ≡ fate.NoMemory)
   pub idle : IsIdle view old new
 
--- No command was served, and nothing was told.
-abbrev pub StaysUnserved : {D I S A T : Type 0} → HostView D I S T → Line → List ℕ → Host S A T D → Host S A T D → SessionEnd → Type 0
-StaysUnserved view line name old new (Closed fault) = StaysShut view line name old new
-StaysUnserved view line name old new (Ended end) = HasNoInput view line name old new end
-StaysUnserved view line name old new (Broken reason end) = ⊥
+-- No command was served. Where there is no input, nothing was told.
+abbrev pub StaysUnserved : {D I S A T E : Type 0} → HostView D I S T → (E → Screen) → Line → List ℕ → Host S A T D → Host S A T D → E → E
+    → SessionEnd → Type 0
+StaysUnserved view errors line name old new told telling (Closed fault) = StaysShut view errors line name old new told telling fault
+StaysUnserved view errors line name old new told telling (Ended end) = HasNoInput view line name old new end × (telling ≡ told)
+StaysUnserved view errors line name old new told telling (Broken reason end) = ⊥
 
 -- The session was opened, and the commands were served over it. Each request that did something had its line in the file before its answer
 -- was shown, unless a line could not be written. Then the output was written after an exit.
@@ -136,7 +148,7 @@ RunsSession view errors line name given old new told telling (Broken reason end)
 abbrev pub EditsKept : {D I S A T E : Type 0} → HostView D I S T → (E → Screen) → Line → List ℕ → CommandsSeen → Host S A T D → Host S A T D
     → E → E → SessionEnd → Type 0
 EditsKept view errors line name given old new told telling end =
-    (StaysUnserved view line name old new end × given.still × (telling ≡ told))
+    (StaysUnserved view errors line name old new told telling end × given.still)
     ⊎ RunsSession view errors line name given old new told telling end
 
 -- By the commands of a file: nothing is done if the disk refuses to open it.

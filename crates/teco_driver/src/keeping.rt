@@ -27,16 +27,17 @@ use crate::editing::{Work, are_awaited, depth_said, finish, leave, settings_of};
 use crate::fates::no_commands;
 use crate::giving::Feed;
 use crate::host::Host;
+use crate::opening::open_told;
 use crate::paging::page_lines_of;
 use crate::reading::input_at;
-use crate::session_lines::{fault_line, not_kept_line, opening_lines, session_name, tell};
+use crate::session_lines::{fault_line, not_kept_line, opening_lines, tell};
 use crate::word_source::WordSource;
 use std::alloc::Global;
 use teco_cli::Line;
 use teco_fs::{Disk, Reason};
 use teco_io::{Source, Terminal};
 use teco_journal::Start;
-use teco_recorder::{Asked, OpenFault, OpenFile, Opened, Recorder, open_session, serve_recorded};
+use teco_recorder::{Asked, OpenFault, OpenFile, Opened, Recorder, serve_recorded};
 use teco_serve::{Alarm, Fate, Listens, Served, output_name};
 
 /// How a run ends whose session is kept in a file.
@@ -120,7 +121,7 @@ fn open_kept<S: Source, A: Alarm, T: Terminal, E: Terminal, D: Disk>(
     ensures to { IfOk result (λ kept. string_bytes kept.work.to ≡ output_of line.now name.now) }
     ensures small { IfOk result (λ kept. kept.length ≤ FILE_LIMIT) }
     ensures shut { let view = host_view (disk_seen D.Disk D.Input.Source) S.Source T.screen (HasRung A.answered) in
-        IfErr result (λ end. StaysUnserved view line.now name.now host.old host.new end × (errors.new ≡ errors.old)) }
+        IfErr result (λ end. StaysUnserved view E.screen line.now name.now host.old host.new errors.old errors.new end) }
     ensures still { host.new.terminal ≡ host.old.terminal }
     ensures stream { KeepsStream name.now host.old.commands host.new.commands }
 {
@@ -132,8 +133,7 @@ fn open_kept<S: Source, A: Alarm, T: Terminal, E: Terminal, D: Disk>(
         return Err(SessionEnd::Ended(Fate::NoMemory));
     };
     let start = start_of(line, input.as_slice());
-    let file = session_name(line);
-    let opened = match open_session(alloc, file, start, asked_of(line), &mut host.disk) {
+    let opened = match open_told(alloc, line, start, asked_of(line), &mut host.disk, errors) {
         Ok(opened) => opened,
         Err(fault) => return Err(SessionEnd::Closed(fault)),
     };

@@ -12,6 +12,7 @@ mod host;
 mod keeping;
 mod library;
 mod looking;
+mod opening;
 mod paging;
 mod placing;
 mod reading;

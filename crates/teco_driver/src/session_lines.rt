@@ -1,7 +1,7 @@
 //! The lines that tell of the file which keeps a session.
 ghost use Rattle.std.specs.Prelude.{◌≡◌, ◌++◌, codes, IfOk, OnErr, OnOk};
 ghost use Rattle.std.specs.String.{string_bytes};
-ghost use Rattle.teco_driver.specs.SessionLines.{changed_line, count_words, cut_words, fault_line, goes_on_words, input_line, is_told_of, not_kept_line, opening_lines, session_name};
+ghost use Rattle.teco_driver.specs.SessionLines.{again_words, changed_line, count_words, cut_words, fault_line, goes_on_words, input_line, is_told_of, not_kept_line, opening_lines, session_name};
 ghost use Rattle.teco_fs.specs.Refusing.{Tells};
 ghost use Rattle.teco_serve.specs.Ending.{said};
 
@@ -62,6 +62,20 @@ fn put_cut(out: &mut String, file: &str, torn: usize) -> Result<(), NoMemory>
     write!(out, "teco: {file}: a torn end is cut off, ")?;
     put_count(out, torn, "byte")?;
     out.push_str("\n")
+}
+
+/// So many steps are run again without a word of it: they take about a second.
+const SHORT_REPLAY: u128 = 10_000_000;
+
+/// What is told before strings that took so many steps are run again.
+pub fn again_line(alloc: Global, line: &Line, steps: u128) -> Result<String, NoMemory>
+    ensures { IfOk result (λ text. string_bytes text ≡ again_words (session_name line.now) steps) }
+{
+    if steps <= SHORT_REPLAY {
+        return Ok(String::new(alloc));
+    }
+    let file = session_name(line);
+    format!(in alloc; "teco: {file}: runs {steps} steps again\n")
 }
 
 /// Whether one who types hears that a session of so many records goes on.

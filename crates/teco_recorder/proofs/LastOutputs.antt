@@ -62,7 +62,22 @@ after_other h k records one at told exits was_done is_done is_last bytes end les
           (ap (λ b. if b then Some (present (after_event h (event_of told))).output else last) (sym picks)) ∙ leads,
     )
 
+-- one record on, after which the same history is led to
+pub leads_on : (h k : History) (records one : List Record) (at : ℕ) (told : Record) (end : History) → at < length records
+    → told ≡ get_or records at told → one ≡ told ∷ [] → k ≡ after_events h (events_of one)
+    → after_events h (events_of (drop at records)) ≡ end → after_events k (events_of (drop (at + 1) records)) ≡ end
+unfolding after_events
+leads_on h k records one at told end less is alone led leads =
+    ap (λ s. after_events s (events_of (drop (at + 1) records))) (after_one h k one told alone led)
+    ∙ sym (ap (λ l. after_events h (events_of l)) (drop_more records at told less ∙ ap (λ r. r ∷ drop (at + 1) records) (sym is)))
+    ∙ leads
+
 -- no record is left
+pub is_led_to : (h : History) (records : List Record) (at : ℕ) (end : History) → length records ≤ at
+    → after_events h (events_of (drop at records)) ≡ end → h ≡ end
+unfolding after_events
+is_led_to h records at end past leads = sym (ap (λ l. after_events h (events_of l)) (drop_all at records past)) ∙ leads
+
 pub is_last_of_all : (h : History) (records : List Record) (at : ℕ) (is_last : Bool) (bytes : List ℕ) (end : Option (List ℕ)) → length records ≤ at
     → IsLastSoFar h (drop at records) is_last bytes end → is_last ≡ true → end ≡ Some bytes
 unfolding last_output

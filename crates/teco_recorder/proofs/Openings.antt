@@ -222,7 +222,7 @@ some_there : (name bytes : List ℕ) (before : Files) → before name ≡ Some b
 some_there name bytes before is none = (let no : Some bytes ≡ None = sym is ∙ none in absurd (cc))
 
 -- A file that has lines is found so, and cut to them.
-found_lines : (beginning : Beginning) (events : List Event) (torn : ℕ) (name bytes : List ℕ) (old now : DiskState) → IsFound name old now
+pub found_lines : (beginning : Beginning) (events : List Event) (torn : ℕ) (name bytes : List ℕ) (old now : DiskState) → IsFound name old now
     → HasBytes name bytes now → HasLines beginning events torn bytes → (before : Files) → old.files ≡ Some before
     → (mid : Files) × (now.files ≡ Some mid) × (mid name ≡ Some bytes) × (before name ≡ Some bytes) × Same before mid
 found_lines beginning events torn name bytes old now p has lines before told =

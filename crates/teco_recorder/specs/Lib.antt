@@ -1,2 +1,3 @@
-pub mod Recording
+pub mod Again
 pub mod Opening
+pub mod Recording

@@ -1,7 +1,9 @@
 //! Why a session's file is not gone on with.
-use std::io;
+ghost use Rattle.teco_recorder.specs.Again.{IsOfSystem};
+
+use std::io::{self, ErrorKind};
 use teco_core::NoMemory;
-use teco_fs::{Reason, reason_of, unless_memory};
+use teco_fs::{Reason, reason_of};
 use teco_replay::ReplayFault;
 
 /// Why a session's file is not gone on with.
@@ -48,10 +50,11 @@ impl From<ReplayFault> for OpenFault {
 }
 
 /// What an error of the system comes to.
-pub fn no_file(error: io::Error) -> OpenFault {
-    unless_memory(
-        error,
-        OpenFault::NoMemory,
-        OpenFault::NoFile(reason_of(error)),
-    )
+pub fn no_file(error: io::Error) -> OpenFault
+    ensures { IsOfSystem result }
+{
+    match error.kind() {
+        ErrorKind::OutOfMemory => OpenFault::NoMemory,
+        _ => OpenFault::NoFile(reason_of(error)),
+    }
 }

@@ -1,6 +1,7 @@
 //! The file that keeps a session: opened, gone on with, and written as each request is done.
 #![tactic(auto)]
 
+mod again;
 mod fault;
 mod open_file;
 mod opening;
@@ -8,6 +9,7 @@ mod outputs;
 mod recorder;
 mod serving;
 
+pub use again::HearsReplay;
 pub use fault::OpenFault;
 pub use open_file::OpenFile;
 pub use opening::{Asked, Opened, open_session};

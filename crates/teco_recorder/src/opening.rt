@@ -1,26 +1,25 @@
 //! A session's file is begun, or gone on with.
-ghost use Rattle.std.specs.Prelude.{◌≡◌, ◌≤◌, ◌⊎◌, IfOk, None, OnErr, OnOk, Some, length, true};
+ghost use Rattle.std.specs.Prelude.{◌≡◌, ◌≤◌, ◌⊎◌, IfErr, IfOk, IfSome, None, OnErr, OnOk, Some, length, true};
 ghost use Rattle.std.specs.Option.{ForSome};
 ghost use Rattle.teco_core.specs.declared.limits.TheConstants.{DEPTH_LIMIT, FILE_LIMIT};
 ghost use Rattle.teco_fs.specs.Disk.{CutsTo, Same};
 ghost use Rattle.teco_fs.specs.State.{FilesChange, FilesPass};
 ghost use Rattle.teco_journal.specs.Events.{events_of};
 ghost use Rattle.teco_journal.specs.Heads.{first_check, beginning_in, whole_head};
-ghost use Rattle.teco_recorder.specs.Opening.{IsAsked, IsExpected, IsGood, Opens, StaysClosed, first_history};
+ghost use Rattle.teco_recorder.specs.Again.{HeardBy, HearsHeld, IsOfFile, IsOfSystem, OpensHeard, steps_again};
+ghost use Rattle.teco_recorder.specs.Opening.{IsAsked, IsExpected, IsGood, StaysClosed, first_history};
 ghost use Rattle.teco_recorder.specs.Recording.{HasIfThere, IsBegun};
 ghost use Rattle.teco_replay.specs.Told.{after_events};
 ghost use Rattle.teco_session.specs.Kept.{history_of};
 
+use crate::again::{HearsReplay, steps_again};
 use crate::fault::{OpenFault, no_file};
 use crate::open_file::OpenFile;
-use crate::outputs::is_last_output;
+use crate::outputs::session_again;
 use std::alloc::Global;
 use teco_core::DEPTH_LIMIT;
 use teco_fs::{Disk, read_whole};
-use teco_journal::{
-    Ending, HeadFault, Record, SessionFault, SessionFile, Start, new_head, read_session,
-};
-use teco_replay::{Quiet, ReplayFault, resume};
+use teco_journal::{Ending, HeadFault, SessionFault, SessionFile, Start, new_head, read_session};
 use teco_session::Session;
 
 /// What a line asks of a session that goes on: it has to be what the file was begun with.
@@ -54,6 +53,7 @@ fn begin<D: Disk>(
     ensures history { IfOk result (λ opened. history_of opened.session ≡ first_history (beginning_in start.entry)) }
     ensures records { IfOk result (λ opened. opened.records ≡ 0) }
     ensures torn { IfOk result (λ opened. opened.torn ≡ 0) }
+    ensures fault { IfErr result IsOfSystem }
     ensures ok { OnOk result (FilesChange (D.seen disk.old) (D.seen disk.new)
         (HasIfThere file.name (whole_head (beginning_in start.entry)))) }
     ensures err { OnErr result (FilesChange (D.seen disk.old) (D.seen disk.new)
@@ -95,6 +95,7 @@ fn fault_in(saved: &SessionFile<'_>, asked: Asked) -> Option<OpenFault>
     ensures ending { result ≡ None → IsGood saved.now.journal.ending }
     ensures depth { result ≡ None → ForSome saved.now.start.depth (λ depth. depth ≤ DEPTH_LIMIT) }
     ensures asked { result ≡ None → IsAsked asked (beginning_in saved.now.start) }
+    ensures fault { IfSome result IsOfFile }
 {
     match saved.journal.ending {
         Ending::Whole | Ending::Torn => {}
@@ -113,31 +114,15 @@ fn fault_in(saved: &SessionFile<'_>, asked: Asked) -> Option<OpenFault>
     }
 }
 
-/// Whether an input is the one that a session began over, or what it wrote last.
-fn is_expected(
-    alloc: Global,
-    start: Start<'_>,
-    records: &[Record],
-    input: &[u8],
-) -> Result<bool, ReplayFault>
-    requires input { length start.input.now ≤ FILE_LIMIT }
-    requires depth { ForSome start.depth (λ depth. depth ≤ DEPTH_LIMIT) }
-    ensures { IfOk result (λ is. is ≡ true → IsExpected (beginning_in start.entry) (events_of records.now) input.now) }
-{
-    if input == start.input {
-        return Ok(true);
-    }
-    is_last_output(alloc, start, records, input)
-}
-
 /// Goes on with a session that the file holds, over this input. So many bytes come behind its lines.
-fn go_on<D: Disk>(
+fn go_on<D: Disk, H: HearsReplay>(
     alloc: Global,
     saved: &SessionFile<'_>,
     torn: usize,
     input: &[u8],
     file: OpenFile<D>,
     disk: &mut D,
+    hearer: &mut H,
 ) -> Result<Opened<D>, OpenFault>
     requires input { length saved.now.start.input.now ≤ FILE_LIMIT }
     requires depth { ForSome saved.now.start.depth (λ depth. depth ≤ DEPTH_LIMIT) }
@@ -146,6 +131,7 @@ fn go_on<D: Disk>(
         ≡ after_events (first_history (beginning_in saved.now.start)) (events_of saved.now.journal.records.items)) }
     ensures records { IfOk result (λ opened. opened.records ≡ length (events_of saved.now.journal.records.items)) }
     ensures torn { IfOk result (λ opened. opened.torn ≡ torn) }
+    ensures fault { IfErr result (λ fault. IsOfFile fault → ⊥) }
     ensures expected { OnOk result
         (IsExpected (beginning_in saved.now.start) (events_of saved.now.journal.records.items) input.now) }
     ensures ok { OnOk result (FilesChange (D.seen disk.old) (D.seen disk.new) (CutsTo file.name saved.now.journal.good)) }
@@ -153,15 +139,12 @@ fn go_on<D: Disk>(
     ensures moments { FilesPass (D.seen disk.old) (D.seen disk.new)
         (λ before now. Same before now ⊎ CutsTo file.name saved.now.journal.good before now) }
     ensures streams { (D.seen disk.new).streams ≡ (D.seen disk.old).streams }
+    ensures heard { H.hears hearer.old hearer.new (steps_again (events_of saved.now.journal.records.items)) }
 {
     let mut file = file;
-    let start = saved.start;
     let records = saved.journal.records.as_slice();
-    let first = Vec::from_slice(alloc, start.input)?;
-    let session = resume(first, start.lines, start.depth, records, &mut Quiet)?;
-    if !is_expected(alloc, start, records, input)? {
-        return Err(OpenFault::Input);
-    }
+    hearer.replays(steps_again(records));
+    let session = session_again(alloc, saved.start, records, input)?;
     match file.go_on(disk, saved.journal.good, saved.journal.check) {
         Ok(()) => Ok(Opened {
             session,
@@ -174,17 +157,20 @@ fn go_on<D: Disk>(
 }
 
 /// Opens the file of a session. Where there is none, or one that ends before a head does, it is begun so; else the session that it holds goes
-/// on, if the input is the one that it was begun over or its last output.
-pub fn open_session<D: Disk>(
+/// on, if the input is the one that it was begun over or its last output. How many steps its strings took is heard before they are run again.
+pub fn open_session<D: Disk, H: HearsReplay>(
     alloc: Global,
     name: &str,
     start: Start<'_>,
     asked: Asked,
     disk: &mut D,
+    hearer: &mut H,
 ) -> Result<Opened<D>, OpenFault>
     requires input { length start.input.now ≤ FILE_LIMIT }
     requires depth { ForSome start.depth (λ depth. depth ≤ DEPTH_LIMIT) }
-    ensures ok { IfOk result (λ opened. Opens (beginning_in start.entry) asked name.now (D.seen disk.old) (D.seen disk.new)
+    ensures ok { let unheard = hearer.new ≡ hearer.old in
+        IfOk result (λ opened. OpensHeard unheard (H.hears hearer.old hearer.new) (beginning_in start.entry) asked name.now
+        (D.seen disk.old) (D.seen disk.new)
         (record {
           file = opened.file;
           history = history_of opened.session;
@@ -192,6 +178,8 @@ pub fn open_session<D: Disk>(
           torn = opened.torn;
         })) }
     ensures err { OnErr result (StaysClosed (beginning_in start.entry) name.now (D.seen disk.old) (D.seen disk.new)) }
+    ensures heard { let unheard = hearer.new ≡ hearer.old in
+        IfErr result (λ fault. HeardBy fault unheard (HearsHeld (H.hears hearer.old hearer.new) name.now (D.seen disk.old))) }
 {
     let file = match OpenFile::open(alloc, name, disk) {
         Ok(file) => file,
@@ -212,5 +200,5 @@ pub fn open_session<D: Disk>(
         return Err(fault);
     }
     let torn = bytes.len() - saved.journal.good;
-    go_on(alloc, &saved, torn, start.input, file, disk)
+    go_on(alloc, &saved, torn, start.input, file, disk, hearer)
 }

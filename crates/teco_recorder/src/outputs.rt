@@ -1,12 +1,15 @@
-//! What a session wrote last.
-ghost use Rattle.std.specs.Prelude.{◌≡◌, ◌≤◌, ◌&&◌, ◌++◌, IfOk, None, Some, length, not, true};
+//! A session is run again, over an input that is the one that it began over or what it wrote last.
+ghost use Rattle.std.specs.Prelude.{◌≡◌, ◌≤◌, ◌&&◌, ◌++◌, IfErr, IfOk, None, OnOk, Some, length, not, true};
 ghost use Rattle.std.specs.Option.{ForSome};
 ghost use Rattle.teco_core.specs.declared.limits.TheConstants.{DEPTH_LIMIT, FILE_LIMIT};
 ghost use Rattle.teco_journal.specs.Events.{event_of, events_of};
 ghost use Rattle.teco_journal.specs.Heads.{beginning_in};
-ghost use Rattle.teco_recorder.specs.Opening.{first_history, is_run_event, last_output};
+ghost use Rattle.teco_recorder.specs.Again.{IsOfFile};
+ghost use Rattle.teco_recorder.specs.Opening.{IsExpected, first_history, is_run_event, last_output};
+ghost use Rattle.teco_replay.specs.Told.{after_events};
 ghost use Rattle.teco_session.specs.Kept.{history_of};
 
+use crate::fault::OpenFault;
 use std::alloc::Global;
 use std::slice;
 use teco_journal::{Record, Start};
@@ -31,13 +34,14 @@ fn are(parts: (&[u8], &[u8]), bytes: &[u8]) -> bool
     }
 }
 
-/// Whether these bytes are the output of the last exit among some records, which the session does again.
+/// Does some records again, and tells whether these bytes are the output of the last exit among them.
 fn is_last_again(
     session: &mut Session,
     records: &[Record],
     bytes: &[u8],
 ) -> Result<bool, ReplayFault>
-    ensures { IfOk result (λ is. is ≡ true
+    ensures told { OnOk result (history_of session.new ≡ after_events (history_of session.old) (events_of records.now)) }
+    ensures last { IfOk result (λ is. is ≡ true
         → last_output (history_of session.old) (events_of records.now) None ≡ Some bytes.now) }
 {
     let mut is_last = false;
@@ -53,23 +57,26 @@ fn is_last_again(
     Ok(is_last)
 }
 
-/// Whether these bytes are the output of the last exit among some records.
-pub fn is_last_output(
+/// The session that began so, after some records, if an input is the one that it began over or what it wrote last.
+pub fn session_again(
     alloc: Global,
     start: Start<'_>,
     records: &[Record],
-    bytes: &[u8],
-) -> Result<bool, ReplayFault>
+    input: &[u8],
+) -> Result<Session, OpenFault>
     requires input { length start.input.now ≤ FILE_LIMIT }
     requires depth { ForSome start.depth (λ depth. depth ≤ DEPTH_LIMIT) }
-    ensures { IfOk result (λ is. is ≡ true
-        → last_output (first_history (beginning_in start.entry)) (events_of records.now) None ≡ Some bytes.now) }
+    ensures history { IfOk result (λ session. history_of session
+        ≡ after_events (first_history (beginning_in start.entry)) (events_of records.now)) }
+    ensures expected { OnOk result (IsExpected (beginning_in start.entry) (events_of records.now) input.now) }
+    ensures fault { IfErr result (λ fault. IsOfFile fault → ⊥) }
 {
-    let Ok(input) = Vec::from_slice(alloc, start.input) else {
-        return Err(ReplayFault::Memory);
-    };
-    let Ok(mut session) = Session::with_pages(input, start.lines, start.depth) else {
-        return Err(ReplayFault::Memory);
-    };
-    is_last_again(&mut session, records, bytes)
+    let first = Vec::from_slice(alloc, start.input)?;
+    let mut session = Session::with_pages(first, start.lines, start.depth)?;
+    let is_last = is_last_again(&mut session, records, input)?;
+    if is_last || input == start.input {
+        Ok(session)
+    } else {
+        Err(OpenFault::Input)
+    }
 }

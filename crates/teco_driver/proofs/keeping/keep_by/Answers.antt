@@ -11,7 +11,7 @@ use Rattle.teco_session.specs.Kept.{history_of}
 use Rattle.teco_serve.specs.Exchange.{HasRung}
 
 pub returns-in-Err : goal.returns-in-Err
-returns-in-Err g c = record { keeps = inl (c.in-Err.ensures.shut.0, refl, c.in-Err.ensures.shut.1); still = c.open_kept.ensures.stream }
+returns-in-Err g c = record { keeps = inl (c.in-Err.ensures.shut, refl); still = c.open_kept.ensures.stream }
 
 pub returns : goal.returns
 returns g c =

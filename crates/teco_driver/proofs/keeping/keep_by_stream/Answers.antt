@@ -8,7 +8,7 @@ use Rattle.teco_fs.specs.Seen.{disk_seen}
 use Rattle.teco_serve.specs.Exchange.{HasRung}
 
 pub returns-in-Err : goal.returns-in-Err
-returns-in-Err g c = inl (c.in-Err.ensures.shut.0, c.open_kept.ensures.stream c.requires.apart, c.in-Err.ensures.shut.1)
+returns-in-Err g c = inl (c.in-Err.ensures.shut, c.open_kept.ensures.stream c.requires.apart)
 
 pub returns : goal.returns
 returns g c =
