@@ -21,6 +21,7 @@ pub(crate) mod session;
 pub(crate) mod step;
 pub(crate) mod store;
 pub(crate) mod tecol;
+mod undo;
 
 /// Ends the test where what is said of a text does not hold.
 pub(crate) fn assert_of(rt: &impl Abort, text: &str, holds: bool) {

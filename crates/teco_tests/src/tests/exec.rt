@@ -8,4 +8,5 @@ mod jumps;
 mod page_lines;
 mod page_turns;
 mod places;
+mod seeking;
 pub(crate) mod strings;

@@ -1,5 +1,7 @@
 //! Of teco_recorder: the file of a session is begun or gone on with, and written as a stream is served, over files in memory. The checks are
 //! those of another program.
+ghost use Rattle.std.specs.Prelude.{◌≡◌, Some};
+
 use super::bytes::{are_there, is, is_typed, joined, wide_screen};
 use super::driver::{Ticking, refused_of};
 use super::rows::{Cells, Rule, all_hold, cells_of, halves_at, number_or, text_of};
@@ -9,7 +11,9 @@ use teco_core::{DEPTH_LIMIT, FILE_LIMIT};
 use teco_fs::MemoryDisk;
 use teco_io::MemorySource;
 use teco_journal::Start;
-use teco_recorder::{Asked, OpenFault, Opened, Recorder, open_session, serve_recorded};
+use teco_recorder::{
+    Asked, HearsReplay, OpenFault, Opened, Recorder, open_session, serve_recorded,
+};
 use teco_serve::{Bounds, ClockAlarm, Manner, Settings, Silent};
 
 /// The file of the session.
@@ -20,28 +24,28 @@ const HEAD: &str = "teco session 1\nlines 0\ndepth -\ninput 2\nab\nf78827da5cdb0
 
 /// The file before; the lines of a page, the depth and the input that it may be begun with; the lines and the depth that are asked for; the
 /// commands; how it is opened, with how many records and torn bytes, and whether a line could not be written then; what is typed; the file
-/// after it; and which call is refused. With an equals sign the file is as it was.
+/// after it; which call is refused; and how many steps are heard of, with a hyphen for none. With an equals sign the file is as it was.
 const ROWS: &str = "
     - // It is begun where no file is, or one that ends before a head does.
-    - none => 0 - ab => - - => Y\x1b\x1bHT\x1b\x1b => open 0 0 => ab => +6f6d4bb1d9dcf1a1 run 1 Y$\naac9147d153caa7e run 2 HT$\n
+    - none => 0 - ab => - - => Y\x1b\x1bHT\x1b\x1b => open 0 0 => ab => +6f6d4bb1d9dcf1a1 run 1 Y$\naac9147d153caa7e run 2 HT$\n => => -
     - - => 0 - ab => - - => - => open 0 0 => - => +
     - teco session 1\nlines 0\ndepth -\ninput 2\na => 66 20 xyz => - - => Y\x1b\x1b => open 0 0 => - => teco session 1\nlines 66\ndepth 20\ninput 3\nxyz\nded49c42324136f5 begun\n076d911f80605de8 run 1 Y$\n
     - // It is gone on with, and what was undone can be redone.
-    - + => 0 - ab => - - => Y\x1b\x1bHT\x1b\x1b => open 0 0 => ab => +6f6d4bb1d9dcf1a1 run 1 Y$\naac9147d153caa7e run 2 HT$\n
+    - + => 0 - ab => - - => Y\x1b\x1bHT\x1b\x1b => open 0 0 => ab => +6f6d4bb1d9dcf1a1 run 1 Y$\naac9147d153caa7e run 2 HT$\n => => 0
     - +6f6d4bb1d9dcf1a1 run 1 Y$\n => 0 - ab => - - => HT\x1b\x1b => open 1 0 => ab => +6f6d4bb1d9dcf1a1 run 1 Y$\naac9147d153caa7e run 2 HT$\n
     - +6f6d4bb1d9dcf1a1 run 1 Y$\n537cdc2ec787d104 undo\n => 0 - ab => - - => }\x1b\x1bHT\x1b\x1b => open 2 0 => ab => +6f6d4bb1d9dcf1a1 run 1 Y$\n537cdc2ec787d104 undo\naa83849c6c4d42a6 redo\n8c107218022b6171 run 2 HT$\n
-    - +2834494091cca95d run 2 HT$\n => 0 - ab => - - => Y\x1b\x1bHT\x1b\x1b1~\x1b\x1b => open 1 0 => ab => +2834494091cca95d run 2 HT$\n58afc04f7601c30f run 1 Y$\nf6ae7c30fb911c0c run 2 HT$\nc633f98a15faf643 rewind 1\n
+    - +2834494091cca95d run 2 HT$\n => 0 - ab => - - => Y\x1b\x1bHT\x1b\x1b1~\x1b\x1b => open 1 0 => ab => +2834494091cca95d run 2 HT$\n58afc04f7601c30f run 1 Y$\nf6ae7c30fb911c0c run 2 HT$\nc633f98a15faf643 rewind 1\n => => 2
     - // A line that has no end is cut off.
-    - +6f6d4bb1d9dcf1a1 run 1 Y$\naac9147d153caa7e run 2 HT$ => 0 - ab => - - => HT\x1b\x1b => open 1 26 => ab => +6f6d4bb1d9dcf1a1 run 1 Y$\naac9147d153caa7e run 2 HT$\n
+    - +6f6d4bb1d9dcf1a1 run 1 Y$\naac9147d153caa7e run 2 HT$ => 0 - ab => - - => HT\x1b\x1b => open 1 26 => ab => +6f6d4bb1d9dcf1a1 run 1 Y$\naac9147d153caa7e run 2 HT$\n => => 1
     - +6f6d4bb1d9dcf1a1 run 1 Y$ => 0 - ab => - - => - => open 0 25 => - => +
     - // What was asked for is what it was begun with.
     - +6f6d4bb1d9dcf1a1 run 1 Y$\n => 0 - ab => 0 - => - => open 1 0 => - => =
     - teco session 1\nlines 66\ndepth 20\ninput 3\nxyz\nded49c42324136f5 begun\n076d911f80605de8 run 1 Y$\n => 0 - xyz => 66 20 => - => open 1 0 => - => =
     - +6f6d4bb1d9dcf1a1 run 1 Y$\n => 0 - ab => 66 - => - => settings => - => =
-    - +6f6d4bb1d9dcf1a1 run 1 Y$\n => 0 - ab => - 20 => - => settings => - => =
+    - +6f6d4bb1d9dcf1a1 run 1 Y$\n => 0 - ab => - 20 => - => settings => - => = => => -
     - teco session 1\nlines 66\ndepth 20\ninput 3\nxyz\nded49c42324136f5 begun\n076d911f80605de8 run 1 Y$\n => 0 - xyz => 66 21 => - => settings => - => =
     - // A line that is not as it was written is told, and nothing is changed.
-    - +6f6d4bb1d9dcf1a1 run 1 Y$\naac9147d153caa7e run 3 HT$\n => 0 - ab => - - => - => changed 2 => - => =
+    - +6f6d4bb1d9dcf1a1 run 1 Y$\naac9147d153caa7e run 3 HT$\n => 0 - ab => - - => - => changed 2 => - => = => => -
     - +6f6d4bb1d9dcf1a1 run 1 Y$\n6f6d4bb1d9dcf1a1 run 1 Y$\n => 0 - ab => - - => - => changed 2 => - => =
     - +aac9147d153caa7e run 2 HT$\n => 0 - ab => - - => - => changed 1 => - => =
     - +6f6d4bb1d9dcf1a1 run 1 Y$\ndb48f2b66c2f8623 leave\n => 0 - ab => - - => - => changed 2 => - => =
@@ -51,7 +55,7 @@ const ROWS: &str = "
     - teco session 1\nlines 0\ndepth -\ninput 2\ncd\nf78827da5cdb0018 begun\n => 0 - ab => - - => - => head => - => =
     - teco session 1\nlines 0\ndepth 100001\ninput 2\nab\ndefaf6bad3148848 begun\n => 0 - ab => - - => - => head => - => =
     - // Steps and an undo that can't have been.
-    - +6f6d4bb1d9dcf1a1 run 1 Y$\n826a89397efcb208 run 5 HT$\n => 0 - ab => - - => - => replay => - => =
+    - +6f6d4bb1d9dcf1a1 run 1 Y$\n826a89397efcb208 run 5 HT$\n => 0 - ab => - - => - => replay => - => = => => 6
     - +e757019bf466f00f undo\n => 0 - ab => - - => - => replay => - => =
     - // Another input is told, unless it is the output of the last exit.
     - +6f6d4bb1d9dcf1a1 run 1 Y$\n => 0 - abc => - - => - => input => - => =
@@ -59,10 +63,10 @@ const ROWS: &str = "
     - +a9c3a794285b42c5 run 3 YIx$EX$\n => 0 - xab => - - => {\x1b\x1bYHT\x1b\x1b => open 1 0 => ab => +a9c3a794285b42c5 run 3 YIx$EX$\ne052cac47c164607 undo\n119919e1c4d4ed78 run 3 YHT$\n
     - +a9c3a794285b42c5 run 3 YIx$EX$\ne052cac47c164607 undo\n => 0 - xab => - - => - => open 2 0 => - => =
     - +a9c3a794285b42c5 run 3 YIx$EX$\ne052cac47c164607 undo\n => 0 - ab => - - => - => open 2 0 => - => =
-    - +a9c3a794285b42c5 run 3 YIx$EX$\ne052cac47c164607 undo\n0a2aab93f175653a run 2 YEX$\n => 0 - xab => - - => - => input => - => =
+    - +a9c3a794285b42c5 run 3 YIx$EX$\ne052cac47c164607 undo\n0a2aab93f175653a run 2 YEX$\n => 0 - xab => - - => - => input => - => = => => 5
     - // A call that is refused leaves what the file told.
     - +6f6d4bb1d9dcf1a1 run 1 Y$\n => 0 - ab => - - => - => file => - => = => held
-    - none => 0 - ab => - - => - => file => - => none => make
+    - none => 0 - ab => - - => - => file => - => none => make => -
     - +6f6d4bb1d9dcf1a1 run 1 Y$\n => 0 - ab => - - => - => file => - => = => read
     - teco session 1\nlines 0\ndepth -\ninput 2\na => 0 - ab => - - => - => file => - => = => to cut
     - +6f6d4bb1d9dcf1a1 run 1 Y$\naac9147d153caa7e run 2 HT$ => 0 - ab => - - => - => file => - => = => to cut
@@ -90,11 +94,35 @@ fn asked_of(cell: &str) -> Asked {
     }
 }
 
+/// Hears how many steps are run again.
+#[derive(Drop)]
+struct Ear {
+    heard: Option<u128>,
+}
+
+impl HearsReplay for Ear {
+    ghost hears = { λ _ new steps. new.heard ≡ Some steps };
+
+    fn replays(&mut self, steps: u128) {
+        self.heard = Some(steps);
+    }
+}
+
+/// Whether so many steps were heard of, or none, where a cell says it.
+fn is_heard(heard: Option<u128>, cell: &str) -> bool {
+    match heard {
+        _ if cell.is_empty() => true,
+        Some(steps) => steps == u128::from(number_or(cell, 0)),
+        None => is(cell, "-"),
+    }
+}
+
 /// The session that a file is opened with: the lines of a page, the depth and the input of one that begins, and what is asked for.
 fn opened_of(
     alloc: Global,
     cells: &Cells,
     disk: &mut MemoryDisk,
+    ear: &mut Ear,
 ) -> Result<Opened<MemoryDisk>, OpenFault> {
     let (lines, rest) = halves_at(cells[1], " ");
     let (depth, input) = halves_at(rest, " ");
@@ -109,7 +137,7 @@ fn opened_of(
         depth,
         input: input.as_slice(),
     };
-    open_session(alloc, FILE, start, asked_of(cells[2]), disk)
+    open_session(alloc, FILE, start, asked_of(cells[2]), disk, ear)
 }
 
 /// The bytes of a file.
@@ -223,11 +251,12 @@ impl Rule for Recorded {
     fn holds(&self, alloc: Global, row: &str) -> bool {
         let cells = cells_of(row);
         let mut disk = disk_before(alloc, &cells);
-        let held = match opened_of(alloc, &cells, &mut disk) {
+        let mut ear = Ear { heard: None };
+        let held = match opened_of(alloc, &cells, &mut disk, &mut ear) {
             Ok(opened) => is_served(alloc, opened, &mut disk, &cells),
             Err(fault) => is_refused(fault, cells[4]),
         };
-        held && has_file_after(alloc, &disk, &cells)
+        held && is_heard(ear.heard, cells[8]) && has_file_after(alloc, &disk, &cells)
     }
 }
 

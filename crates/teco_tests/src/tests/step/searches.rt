@@ -14,6 +14,27 @@ pub(crate) const ROWS: &str = "
     Iaxb\x1bJ::Sx\x1b=.=J1C::S\x1b=.= => 0\r\n0\r\n-1\r\n2\r\n
     Ia\x1b0J-:Sa\x1b+1= => 0\r\n
     Ia\x1b0J5,:Sa\x1b => => ARG
+    // A text without controls is looked for as it stands: at the ends, across the gap, by its first bytes more than once, at no place.
+    Iabc\x1bJSa\x1b.=Sb\x1b.=Sc\x1b.= => 1\r\n2\r\n3\r\n
+    Iabcd\x1b2JIX\x1b-DJ:Sbc\x1b=.= => -1\r\n3\r\n
+    Iaxbx\x1b2JIY\x1b-D1J:Sxbx\x1b=.= => -1\r\n4\r\n
+    Iaaab\x1b2JIX\x1b-D0J:Saab\x1b=.= => -1\r\n4\r\n
+    Iabc\x1b:Sc\x1b=.= => 0\r\n0\r\n
+    Iabc\x1bJ:Sabcd\x1b=.= => 0\r\n0\r\n
+    :Sa\x1b=.= => 0\r\n0\r\n
+    // An empty one is the last one, also where that has controls.
+    Iabab\x1bJSb\x1b.=S\x1b.= => 2\r\n4\r\n
+    Ia1b2\x1bJS\x05D\x1b.=S\x1b.= => 2\r\n4\r\n
+    Iabab\x1bJFSb\x1bc\x1bFS\x1bd\x1bHT.= => acad4\r\n
+    // Control bytes that mean nothing are themselves, and so are a quoted control and bytes past 127.
+    I\x01\x02\x1bJ:S\x02\x1b=.= => -1\r\n2\r\n
+    Ia\r\nb\tc\x1bJ:S\r\n\x1b=.=:S\t\x1b=.= => -1\r\n3\r\n-1\r\n5\r\n
+    Ia\x12\x1bJ:S\x11\x12\x1b=.= => -1\r\n2\r\n
+    IQ^EQ\x1bJ:S^E\x1b=.= => -1\r\n3\r\n
+    Iaéb\x1bJ:Sé\x1b=.=Z= => -1\r\n3\r\n4\r\n
+    // In either case a text without letters is so looked for, also past 127.
+    0^XIa1-é\x1bJ:S1-\x1b=.=:Sé\x1b=.= => -1\r\n3\r\n-1\r\n5\r\n
+    0^XIaB\x1bJ:SAb\x1b=.= => -1\r\n2\r\n
     // What is found is replaced.
     Icat\x1b0J@FS/a/oa/HT.= => coat3\r\n
     Iabc\x1bJ:FSb\x1bxyz\x1b=HT.= => -1\r\naxyzc4\r\n

@@ -15,6 +15,10 @@ const ROWS: &str = "
     // A replacement fits or is BIG.
     Ia\x1bJFSa\x1b[FULL]xx\x1bZ= => 16777216\r\n
     Ia\x1bJFSa\x1b[FULL]xxx\x1b => => BIG
+    // A search text fits or is BIG, and is found at the end of a full text, or is all of it.
+    I[FULL]ab\x1bJ:Sab\x1b=.= => -1\r\n16777216\r\n
+    AJ:S[FULL]xx\x1b=.= => -1\r\n16777216\r\n => => => => => [FULL]xx
+    Ia\x1bJ:S[FULL]xxx\x1b => => BIG
     // A page past the limit is BIG.
     YZ=P => 1\r\n => BIG => => => => x\x0c[FULL]xxx
     YZ=A => 1\r\n => BIG => => => => x\x0c[FULL]xxx
