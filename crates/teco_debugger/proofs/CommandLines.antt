@@ -1,15 +1,13 @@
 -- What a parse by the program's command gives.
-use Rattle.std.proofs.Common.{◌≡◌, ◌∙◌, ℕ, true, refl, sym, ap, subst, map, min, inl, inr, codes, List, [], Option, Some, None, Result, Ok, Err}
-use Rattle.std.specs.Prelude.{unwrap_or, option_map, IfErr, IfOk}
-use Rattle.std.specs.String.{string_bytes}
+use Rattle.std.proofs.Common.{◌≡◌, ◌∙◌, ℕ, true, refl, sym, ap, subst, min, inl, inr, codes, List, [], Option, Some, None, Result, Ok, Err}
+use Rattle.std.specs.Prelude.{unwrap_or, IfErr, IfOk, OnOk}
 use Rattle.std.specs.Str.Parse.{ParsesUnsigned}
-use Rattle.clap.specs.Words.{App, HasMatchesOf, ReadsOne, Row, Text, fault_of, first_of, found_of, one_of, is_simple, is_simple_and_free, matches_of, rows_of}
+use Rattle.clap.specs.Words.{App, HasMatchesOf, ReadsOne, Row, Text, fault_of, found_of, one_of, is_simple, is_simple_and_free, matches_of, rows_of}
 use Rattle.clap.specs.declared.parser.matches.ArgMatches.{ArgMatches}
 use Rattle.teco_cli.specs.Parsing.{IsUnparsed}
-use Rattle.teco_cli.specs.Options.{option_texts}
 use Rattle.teco_cli.specs.declared.fault.LineFault.{LineFault}
 use Rattle.teco_cli.specs.declared.fault.LineFault.TheVariants.{NoMemory, Refused}
-use Rattle.teco_debugger.specs.CommandLine.{IsLimit, IsMisgiven, IsOrigin, LacksLine, LineHas, WordsSay, WordsSayNone, debug_app}
+use Rattle.teco_debugger.specs.CommandLine.{HasTexts, IsLimit, IsMisgiven, IsNumberIn, LacksLine, LineHas, WordsSay, WordsSayNone, debug_app, fault_in, origin_of}
 use Rattle.teco_debugger.specs.declared.line.DebuggerLine.{DebuggerLine}
 use Rattle.teco_debugger.specs.declared.arguments.Texts.{Texts}
 
@@ -29,6 +27,15 @@ limit_read G only (Some t) None none some = λ number.
     let err = some t refl in
     absurd (only t (Err err.0) err.1 number)
 
+-- the number is what its text says
+pub number_read : {E : Type 0} (G : List ℕ → Result ℕ E → Type 0) → ((u : List ℕ) (x : Result ℕ E) → G u x → ParsesUnsigned 64 10 u x)
+    → (o : Option Text) (r : Option ℕ) → (o ≡ None → r ≡ None) → ((t : Text) → o ≡ Some t → ReadsOne G t r) → IsNumberIn o r
+number_read G only None r none some = none refl
+number_read G only (Some t) (Some n) none some = λ number. ap Some (only t (Ok n) (some t refl)).1
+number_read G only (Some t) None none some = λ number.
+    let err = some t refl in
+    absurd (only t (Err err.0) err.1 number)
+
 -- ---- why there is no line
 
 no_line : (words : List Text) (fault : LineFault) → IsUnparsed debug_app words fault → WordsSayNone words fault
@@ -37,30 +44,27 @@ no_line words (Refused refusal) h = inl h
 
 -- ---- what the texts of a parse give
 
-pub has_line : (rows : List Row) (r : Result DebuggerLine LineFault) (t : Texts) (limit : ℕ) → IsLimit (one_of (codes "limit") rows) limit
-    → first_of (codes "execute") rows ≡ option_map string_bytes t.word → option_texts (codes "file") rows ≡ map string_bytes t.files.items
-    → first_of (codes "bytes") rows ≡ option_map string_bytes t.bytes → first_of (codes "input") rows ≡ option_map string_bytes t.input
-    → IfOk r (λ line. line.limit ≡ limit)
-    → IfOk r (λ line. IsOrigin (option_map string_bytes t.word) (map string_bytes t.files.items) (option_map string_bytes t.bytes) line.origin)
-    → IfOk r (λ line. line.input ≡ t.input) → IfOk r (LineHas rows)
-has_line rows (Err fault) t limit is word file bytes input l o i = tt
-has_line rows (Ok line) t limit is word file bytes input l o i = record {
+pub has_line : (rows : List Row) (r : Result DebuggerLine LineFault) (t : Texts) (number : Option ℕ) (limit : ℕ) → HasTexts rows t
+    → IsNumberIn (one_of (codes "string") rows) number → IsLimit (one_of (codes "limit") rows) limit
+    → IfOk r (λ line. line.limit ≡ limit) → OnOk r (fault_in t number ≡ None)
+    → IfOk r (λ line. line.origin ≡ origin_of t.session t.bytes t.files t.word number) → IfOk r (λ line. line.input ≡ t.input) → IfOk r (LineHas rows)
+has_line rows (Err fault) t number limit texts is_number is l fits o i = tt
+has_line rows (Ok line) t number limit texts is_number is l fits o i = record {
+  texts = t;
+  texts_are = texts;
+  number = number;
+  number_is = is_number;
+  fits = fits;
   limit = subst (IsLimit (one_of (codes "limit") rows)) (sym l) is;
-  origin = rw (word, file, bytes) o;
-  input = input ∙ ap (option_map string_bytes) (sym i);
+  origin = o;
+  input = i;
 }
 
-misgiven_is : (rows : List Row) (fault : LineFault)
-    → IsMisgiven (first_of (codes "execute") rows) (option_texts (codes "file") rows) (first_of (codes "bytes") rows) fault → LacksLine rows fault
-misgiven_is rows NoMemory h = tt
-misgiven_is rows (Refused refusal) h = h
-
-pub read_fault : (rows : List Row) (r : Result DebuggerLine LineFault) (t : Texts)
-    → first_of (codes "execute") rows ≡ option_map string_bytes t.word → option_texts (codes "file") rows ≡ map string_bytes t.files.items
-    → first_of (codes "bytes") rows ≡ option_map string_bytes t.bytes
-    → IfErr r (IsMisgiven (option_map string_bytes t.word) (map string_bytes t.files.items) (option_map string_bytes t.bytes)) → IfErr r (LacksLine rows)
-read_fault rows (Ok line) t word file bytes h = tt
-read_fault rows (Err fault) t word file bytes h = misgiven_is rows fault (rw (word, file, bytes) h)
+pub read_fault : (rows : List Row) (r : Result DebuggerLine LineFault) (t : Texts) (number : Option ℕ) → HasTexts rows t
+    → IsNumberIn (one_of (codes "string") rows) number → IfErr r (IsMisgiven t number) → IfErr r (LacksLine rows)
+read_fault rows (Ok line) t number texts is_number h = tt
+read_fault rows (Err NoMemory) t number texts is_number h = tt
+read_fault rows (Err (Refused refusal)) t number texts is_number h = (t, texts, number, is_number, h)
 
 module _ (app : App) (is : app ≡ debug_app) where
   -- the words are not read

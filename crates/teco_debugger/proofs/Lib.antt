@@ -4,12 +4,17 @@ pub mod CommandLines
 pub mod FilesRead
 pub mod LineEnds
 pub mod Passes
+pub mod RunEnds
+pub mod Marked
 pub mod Served
 pub mod Sizes
 pub mod Texts
 pub mod Findings
 pub mod Staying
 pub mod Histories
+pub mod Walked
+pub mod Lengths
+pub mod KeptStrings
 pub mod Changes
 pub mod Returning
 pub mod WalkEnds

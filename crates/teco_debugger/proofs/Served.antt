@@ -4,7 +4,7 @@ use Rattle.std.specs.Prelude.{IfSome}
 use Rattle.std.specs.Io.BufRead.{DropsThrough, take_through}
 use Rattle.teco_debugger.specs.Serving.{AnswersLines, AsksAndServes, EndsStar, EndsUnread, Stage, TakesLine}
 use Rattle.teco_debugger.specs.declared.ending.Ending.{Ending}
-use Rattle.teco_debugger.specs.declared.ending.Ending.TheVariants.{Caret, Done, NoText, NoInput, NoMemory, ReadFault, ShowFault}
+use Rattle.teco_debugger.specs.declared.ending.Ending.TheVariants.{Caret, Done, NoString, NoText, NoInput, NoMemory, ReadFault, ShowFault}
 use Rattle.std.specs.Io.KnownBytes.{IsAtEnd}
 use Prim.Native.Char.{code}
 
@@ -27,5 +27,6 @@ ends_unread prompts ShowFault a b left same ends = (left, same, ends)
 ends_unread prompts (NoText number fault) a b left same ends = absurd ends
 ends_unread prompts (NoInput fault) a b left same ends = absurd ends
 ends_unread prompts (Caret number spot) a b left same ends = absurd ends
+ends_unread prompts (NoString fault) a b left same ends = absurd ends
 ends_unread prompts NoMemory a b left same ends = absurd ends
 ends_unread prompts ReadFault a b left same ends = absurd ends

@@ -5,7 +5,7 @@ use Rattle.std.proofs.lemmas.Bool.{true≢false, eqb-true, ltb-false, ltb-true}
 use Rattle.std.proofs.lemmas.Option.{slice_get_past, slice_get_read}
 use Rattle.std.specs.Prelude.{slice_get, slice_set}
 use Rattle.teco_exec.specs.declared.place.Call.{Call}
-use Rattle.teco_debugger.specs.Walk.{KeptWalk, meant}
+use Rattle.teco_debugger.specs.Walk.{KeptWalk, base, meant}
 use Rattle.teco_debugger.specs.Sources.{IsShownAt, IsShownSeen, outermost_shown, shown_place}
 use Rattle.teco_debugger.specs.declared.sources.SourceText.{SourceText}
 use Rattle.teco_debugger.specs.declared.sources.Shown.{Shown}
@@ -19,10 +19,10 @@ same_steps : (source : Option SourceText) (old new : Seen) → IsShownSeen sourc
 same_steps None old new is = ap (λ s. s.outcome.steps) is
 same_steps (Some source) old new is = ap (λ o. o.steps) is.0
 
-pub shown_typed : (sources : List SourceText) (walk : KeptWalk) (n : ℕ) (there : Shown) → IsShownAt sources walk n there → there.seen.typed.items ≡ (meant walk.input walk.text n).typed
+pub shown_typed : (sources : List SourceText) (walk : KeptWalk) (n : ℕ) (there : Shown) → IsShownAt sources walk n there → there.seen.typed.items ≡ (meant (base walk) walk.text n).typed
 shown_typed sources walk n there is = same_typed (slice_get sources there.number) is.0 there.seen is.3 ∙ is.1.typed
 
-pub shown_steps : (sources : List SourceText) (walk : KeptWalk) (n : ℕ) (there : Shown) → IsShownAt sources walk n there → there.seen.outcome.steps ≡ (meant walk.input walk.text n).steps
+pub shown_steps : (sources : List SourceText) (walk : KeptWalk) (n : ℕ) (there : Shown) → IsShownAt sources walk n there → there.seen.outcome.steps ≡ (meant (base walk) walk.text n).steps
 shown_steps sources walk n there is = same_steps (slice_get sources there.number) is.0 there.seen is.3 ∙ is.1.steps
 
 -- the source of a number, as it is read

@@ -3,28 +3,35 @@ use Rattle.std.proofs.Common.{◌≡◌, ◌∙◌, ℕ, ◌+◌, ◌-◌, ◌<�
 use Rattle.std.specs.Prelude.{IfSome}
 use Rattle.std.proofs.lemmas.Bool.{cases_lt}
 use Rattle.teco_store.specs.State.{State}
-use Rattle.teco_debugger.specs.Walk.{KeptWalk, SameString, meant, state_there}
+use Rattle.teco_exec.specs.StringMeaning.{StringMeaning}
+use Rattle.teco_debugger.specs.Walk.{KeptWalk, SameString, after_all, base, meant, state_there}
 use Rattle.teco_debugger.specs.Watching.{AreAsHere, IsFirstOther, is_as_here, is_same}
 use Rattle.teco_debugger.specs.declared.watching.Watch.{Watch}
 
 -- a third walk over the string of two
 pub same_on : (walk other after : KeptWalk) → SameString walk other → SameString other after → SameString walk after
-same_on walk other after a b = record { input = b.input ∙ a.input; text = b.text ∙ a.text }
+same_on walk other after a b = record { first = b.first ∙ a.first; before = b.before ∙ a.before; text = b.text ∙ a.text }
+
+-- what they mean
+pub same_meant : (walk other : KeptWalk) (n : ℕ) → SameString walk other → meant (base other) other.text n ≡ meant (base walk) walk.text n
+same_meant walk other n same =
+    ap (λ s. meant (after_all s other.before) other.text n) same.first ∙ ap (λ b. meant (after_all walk.first b) other.text n) same.before
+    ∙ ap (λ x. meant (base walk) x n) same.text
 
 -- Where a walk goes to a step of the string, what is seen of both is what is so there.
 pub here_is : (watch : Watch) (walk other after : KeptWalk) (n : ℕ) (s t : State) (r : Bool) → SameString walk other
-    → state_there after ≡ (meant other.input other.text n).state → s ≡ state_there walk → t ≡ state_there after → r ≡ is_same watch s t
+    → state_there after ≡ (meant (base other) other.text n).state → s ≡ state_there walk → t ≡ state_there after → r ≡ is_same watch s t
     → is_as_here watch walk n ≡ r
 here_is watch walk other after n s t r same went s_is t_is r_is =
-    let there : t ≡ (meant walk.input walk.text n).state =
-    t_is ∙ went ∙ ap (λ i. (meant i other.text n).state) same.input ∙ ap (λ x. (meant walk.input x n).state) same.text in
+    let there : t ≡ (meant (base walk) walk.text n).state =
+    t_is ∙ went ∙ ap (λ (m : StringMeaning). m.state) (same_meant walk other n same) in
     sym (r_is ∙ ap (λ x. is_same watch x t) s_is ∙ ap (λ x. is_same watch (state_there walk) x) there)
 
 -- how many steps a walk over the same string has done that went from the beginning to a step
 pub end_is : (walk other : KeptWalk) (n steps : ℕ) → SameString walk other → other.steps ≡ 0 → (n ≤ other.steps → steps ≡ n)
-    → (other.steps < n → steps ≡ (meant other.input other.text n).steps) → (meant walk.input walk.text n).steps ≤ n → steps ≡ (meant walk.input walk.text n).steps
+    → (other.steps < n → steps ≡ (meant (base other) other.text n).steps) → (meant (base walk) walk.text n).steps ≤ n → steps ≡ (meant (base walk) walk.text n).steps
 end_is walk other n steps same first back on within = elim (cases_lt other.steps n) [
-  | inl less ↦ on less ∙ ap (λ i. (meant i other.text n).steps) same.input ∙ ap (λ x. (meant walk.input x n).steps) same.text
+  | inl less ↦ on less ∙ ap (λ (m : StringMeaning). m.steps) (same_meant walk other n same)
   | inr more ↦ let is = back more in omega (arith, is, more, first, within)
 ]
 

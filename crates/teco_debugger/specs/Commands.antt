@@ -15,7 +15,7 @@ use Rattle.teco_debugger.specs.Around.{around_at}
 use Rattle.teco_debugger.specs.Breaks.{stops_shown}
 use Rattle.teco_debugger.specs.Number.{number_in}
 use Rattle.teco_debugger.specs.Finding.{last_change}
-use Rattle.teco_debugger.specs.Walk.{KeptWalk, meant, state_there}
+use Rattle.teco_debugger.specs.Walk.{KeptWalk, base, meant, state_there}
 use Rattle.teco_debugger.specs.Help.{help_shown}
 use Rattle.teco_debugger.specs.History.{history_of_register}
 use Rattle.teco_debugger.specs.Listing.{lines_there_shown, registers_shown, state_shown, whole_register}
@@ -457,7 +457,7 @@ AnswersPlain plain.Continue old new shown = GoesOnToStop old.stops.items old new
 AnswersPlain plain.Finish old new shown = Finishes old new shown
 -- all that the string typed so far
 AnswersPlain plain.Typed old new shown =
-    OnlyShows (answer_line (spelled (meant old.walk.input old.walk.text old.walk.steps).typed)) old new shown
+    OnlyShows (answer_line (spelled (meant (base old.walk) old.walk.text old.walk.steps).typed)) old new shown
 AnswersPlain plain.Help old new shown = ShowsHelp old new shown
 AnswersPlain plain.Quit old new shown = OnlyShows [] old new shown
 

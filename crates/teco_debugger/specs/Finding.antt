@@ -6,7 +6,7 @@ use Rattle.teco_store.specs.State.{StateOver}
 use Rattle.teco_store.specs.Turn.{Note}
 use Rattle.teco_store.specs.declared.change_kind.ChangeKind.{ChangeKind}
 use Rattle.teco_store.specs.declared.change_kind.ChangeKind.TheVariants.{Splice, Point, Number, Text, Push, Pop, Pages, Search, Found, Done, Mode}
-use Rattle.teco_debugger.specs.Walk.{KeptWalk, meant, state_there}
+use Rattle.teco_debugger.specs.Walk.{KeptWalk, base, meant, state_there}
 use Rattle.teco_debugger.specs.declared.part.Part.{Part}
 use Rattle.teco_debugger.specs.declared.part.Part.TheVariants.{Buffer, Register}
 
@@ -56,4 +56,4 @@ SamePart (Register q) s t = content t.registers q ≡ content s.registers q
 
 -- After each step that is done, from so many on, the part is as it is where the walk stands.
 abbrev pub IsAsNowFrom : ℕ → Part → KeptWalk → Type 0
-IsAsNowFrom n part w = (i : ℕ) → n ≤ i → i ≤ w.steps → SamePart part (meant w.input w.text i).state (state_there w)
+IsAsNowFrom n part w = (i : ℕ) → n ≤ i → i ≤ w.steps → SamePart part (meant (base w) w.text i).state (state_there w)

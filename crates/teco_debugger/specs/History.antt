@@ -6,7 +6,7 @@ use Rattle.teco_store.specs.State.{State}
 use Rattle.teco_store.specs.Turn.{Note}
 use Rattle.teco_debugger.specs.Finding.{step_before}
 use Rattle.teco_debugger.specs.Listing.{register_shown}
-use Rattle.teco_debugger.specs.Walk.{KeptWalk, meant}
+use Rattle.teco_debugger.specs.Walk.{KeptWalk, base, meant}
 use Rattle.teco_debugger.specs.declared.history.TheConstants.{MOST_CHANGES}
 use Rattle.teco_debugger.specs.declared.listing.TheConstants.{MOST_SHOWN}
 use Rattle.teco_debugger.specs.declared.part.Part.{Part}
@@ -24,7 +24,7 @@ change_steps part (note ∷ notes) = change_steps part notes ++ step_if (step_be
 
 -- the state after the step that comes after n steps, where so many are done
 abbrev pub after_step : KeptWalk → ℕ → State
-after_step walk n = (meant walk.input walk.text (min (n + 1) walk.steps)).state
+after_step walk n = (meant (base walk) walk.text (min (n + 1) walk.steps)).state
 
 -- a line of a change: how many steps were done before it, and what the register held after it
 unfoldable pub change_shown : KeptWalk → ℕ → ℕ → List ℕ

@@ -1,11 +1,14 @@
 pub mod Around
+pub mod Begun
 pub mod Breaks
 pub mod CommandLine
 pub mod Commands
 pub mod Ending
 pub mod Help
 pub mod History
+pub mod Kept
 pub mod Listing
+pub mod Marks
 pub mod Moving
 pub mod Program
 pub mod Reading

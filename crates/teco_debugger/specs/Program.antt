@@ -6,8 +6,8 @@ use Rattle.teco_fs.specs.Refusing.{Refuses}
 use Rattle.teco_fs.specs.Seen.{KeepsDisk, Host, DiskSeen}
 use Rattle.teco_io.specs.Terminal.{Screen}
 use Rattle.teco_debugger.specs.CommandLine.{WordsSay, WordsSayNone}
-use Rattle.teco_debugger.specs.Ending.{TellsEnding, told_line}
-use Rattle.teco_debugger.specs.Reading.{BeginsOver, CannotRead}
+use Rattle.teco_debugger.specs.Begun.{BeginsOver, CannotRead}
+use Rattle.teco_debugger.specs.Ending.{TellsEnding, TellsTorn, told_line}
 use Rattle.teco_debugger.specs.Serving.{ServesLines, stage}
 use Rattle.teco_debugger.specs.declared.debugger.Debugger.{Debugger}
 use Rattle.teco_debugger.specs.declared.ending.Ending.{Ending}
@@ -24,26 +24,29 @@ abbrev pub retrace_view : {D I S T : Type 0} → (D → DiskSeen I) → (S → O
 retrace_view disk coming screen = record { disk = disk; coming = coming; screen = screen }
 
 -- The files are not read, which says how the run ends. No command is read, and nothing is shown.
-pub record HasNoFiles {D I S T : Type 0} (view : RetraceView D I S T) (line : DebuggerLine) (old new : Host D S T)
-    (ending : Ending) : Type 0 where
+pub record HasNoFiles {D I S T E : Type 0} (view : RetraceView D I S T) (errors : E → Screen) (line : DebuggerLine) (old new : Host D S T)
+    (told telling : E) (ending : Ending) : Type 0 where
   pub lacks : CannotRead (view.disk old.disk).files (view.disk new.disk) line ending
   pub stream : new.stream ≡ old.stream
   pub term : new.term ≡ old.term
+  pub still : telling ≡ told
 
--- The files are read, and the commands are served over them.
-pub record ServesFiles {D I S T : Type 0} (view : RetraceView D I S T) (line : DebuggerLine) (prompts : Bool) (old new : Host D S T)
-    (ending : Ending) : Type 0 where
+-- The files are read. What a session's file has behind its lines is told, and the commands are served.
+pub record ServesFiles {D I S T E : Type 0} (view : RetraceView D I S T) (errors : E → Screen) (line : DebuggerLine) (prompts : Bool)
+    (old new : Host D S T) (told telling : E) (ending : Ending) : Type 0 where
+  pub torn : ℕ
   pub first : Debugger
   pub last : Debugger
-  pub begins : BeginsOver (view.disk old.disk).files line first
+  pub begins : BeginsOver (view.disk old.disk).files line torn first
+  pub tells : TellsTorn line torn (errors told) (errors telling)
   pub serves : ServesLines prompts (stage (view.coming old.stream) first (view.screen old.term))
       (stage (view.coming new.stream) last (view.screen new.term)) ending
 
 -- A run over a line, by which no file changes.
-pub record RetracesLine {D I S T : Type 0} (view : RetraceView D I S T) (line : DebuggerLine) (prompts : Bool) (old new : Host D S T)
-    (ending : Ending) : Type 0 where
+pub record RetracesLine {D I S T E : Type 0} (view : RetraceView D I S T) (errors : E → Screen) (line : DebuggerLine) (prompts : Bool)
+    (old new : Host D S T) (told telling : E) (ending : Ending) : Type 0 where
   pub keeps : KeepsDisk (view.disk old.disk) (view.disk new.disk)
-  pub ends : HasNoFiles view line old new ending ⊎ ServesFiles view line prompts old new ending
+  pub ends : HasNoFiles view errors line old new told telling ending ⊎ ServesFiles view errors line prompts old new told telling ending
 
 -- The words say a line, and the run is that over it. How it ends is told on standard error.
 pub record RetracesWords {D I S T E : Type 0} (view : RetraceView D I S T) (errors : E → Screen)
@@ -51,8 +54,9 @@ pub record RetracesWords {D I S T E : Type 0} (view : RetraceView D I S T) (erro
   pub line : DebuggerLine
   pub line_is : IsLineIn WordsSay words line
   pub ending : Ending
-  pub run : RetracesLine view line prompts old new ending
-  pub end : TellsEnding line ending (errors told) (errors telling) status
+  pub between : E
+  pub run : RetracesLine view errors line prompts old new told between ending
+  pub end : TellsEnding line ending (errors between) (errors telling) status
 
 -- The words say no line, and nothing is read or shown but what is told of that; or they say one.
 abbrev pub RetracesBy : {D I S T E : Type 0} → RetraceView D I S T → (E → Screen) → Words → Bool → Host D S T → Host D S T → E → E → ℕ

@@ -1,5 +1,5 @@
 -- Files that are read: the command string, and the input.
-use Rattle.std.specs.Prelude.{◌≡◌, ◌⊎◌, ℕ, List, [], ◌∷◌, ◌++◌, codes, length, map, option_map, slice_get, Option, Some, None, Ok, Err}
+use Rattle.std.specs.Prelude.{◌≡◌, ◌⊎◌, ℕ, List, [], ◌∷◌, ◌++◌, codes, length, map, slice_get, Option, Some, None, Ok, Err}
 use Rattle.std.specs.String.{string_bytes}
 use Rattle.std.specs.declared.alloc.Global.{Global}
 use Rattle.std.specs.declared.io.Error.{Error}
@@ -19,12 +19,8 @@ use Rattle.teco_messages.specs.declared.spot.Spot.{Spot}
 use Rattle.teco_source.specs.Places.{places_of}
 use Rattle.teco_source.specs.Source.{commands_of}
 use Rattle.teco_debugger.specs.Spelling.{escaped}
-use Rattle.teco_debugger.specs.declared.debugger.Debugger.{Debugger}
 use Rattle.teco_debugger.specs.declared.ending.Ending.{Ending}
 use Rattle.teco_debugger.specs.declared.ending.Ending.TheVariants.{Caret, NoText, NoInput, NoMemory}
-use Rattle.teco_debugger.specs.declared.line.DebuggerLine.{DebuggerLine}
-use Rattle.teco_debugger.specs.declared.line.Origin.{Origin}
-use Rattle.teco_debugger.specs.declared.line.Origin.TheVariants.{Sources, Bytes}
 use Rattle.teco_debugger.specs.declared.reading.Given.{Given}
 use Rattle.teco_debugger.specs.declared.sources.SourceText.{SourceText}
 use Rattle.teco_debugger.specs.declared.reading.FileFault.{FileFault}
@@ -94,29 +90,10 @@ pub record IsOfSources (files : Option Files) (names : List (String Global)) (wo
 abbrev pub IsOfBytes : Option Files → List ℕ → Given → Type 0
 IsOfBytes files name given = IsInput files name given.text.items × (given.sources.items ≡ [])
 
--- The command string of the line, and its sources.
-abbrev pub IsStringOf : Option Files → Origin → Given → Type 0
-IsStringOf files (Sources names word) given = IsOfSources files names.items (option_map string_bytes word) given
-IsStringOf files (Bytes name) given = IsOfBytes files (string_bytes name) given
-
 -- The input is what the file has, or nothing where no file is named.
 abbrev pub IsInputOf : Option Files → Option (String Global) → List ℕ → Type 0
 IsInputOf files (Some name) input = IsInput files (string_bytes name) input
 IsInputOf files None input = input ≡ []
-
--- The debugger stands before the first step of the line's command string, over the line's input, under its limit. No
--- move is done yet, no place to stop at is noted, and no command is to be done again.
-pub record BeginsOver (files : Option Files) (line : DebuggerLine) (debugger : Debugger) : Type 0 where
-  pub given : Given
-  pub given_is : IsStringOf files line.origin given
-  pub text : debugger.walk.text ≡ given.text.items
-  pub sources : debugger.sources ≡ given.sources
-  pub input : IsInputOf files line.input debugger.walk.input
-  pub steps : debugger.walk.steps ≡ 0
-  pub limit : debugger.limit ≡ line.limit
-  pub moves : debugger.moves.items ≡ []
-  pub stops : debugger.stops.items ≡ []
-  pub again : debugger.again ≡ None
 
 -- The file of this number and name is not read.
 abbrev pub LacksFile : {I : Type 0} → Option Files → DiskSeen I → ℕ → List ℕ → Ending → Type 0
@@ -142,14 +119,8 @@ LacksWord number (Some word) ending = IsUnreadable number word ending
 abbrev pub LacksSources : {I : Type 0} → Option Files → DiskSeen I → List (String Global) → Option (List ℕ) → Ending → Type 0
 LacksSources files new names word ending = LacksEach files new names ending ⊎ LacksWord (length names) word ending
 
--- Why the string of the line is not had.
-abbrev pub LacksString : {I : Type 0} → Option Files → DiskSeen I → Origin → Ending → Type 0
-LacksString files new (Sources names word) ending = LacksSources files new names.items (option_map string_bytes word) ending
-LacksString files new (Bytes name) ending = LacksFile files new 0 (string_bytes name) ending
-
--- Why there is no debugger: the string or the input is not had, or memory was refused.
-abbrev pub CannotRead : {I : Type 0} → Option Files → DiskSeen I → DebuggerLine → Ending → Type 0
-CannotRead files new line NoMemory = Unit {0}
-CannotRead files new line (NoInput fault) =
-    (name : String Global) × (line.input ≡ Some name) × IsNotRead files new (string_bytes name) fault
-CannotRead files new line ending = LacksString files new line.origin ending
+-- Why the input of the line is not had.
+abbrev pub InputIsMissing : {I : Type 0} → Option Files → DiskSeen I → Option (String Global) → Ending → Type 0
+InputIsMissing files new input NoMemory = Unit {0}
+InputIsMissing files new input (NoInput fault) = (name : String Global) × (input ≡ Some name) × IsNotRead files new (string_bytes name) fault
+InputIsMissing files new input _ = ⊥

@@ -7,7 +7,7 @@ use Rattle.teco_debugger.specs.Commands.{IsAnswerTo, asked, is_leaving, noted}
 use Rattle.teco_debugger.specs.Moving.{SameRun}
 use Rattle.teco_debugger.specs.declared.debugger.Debugger.{Debugger}
 use Rattle.teco_debugger.specs.declared.ending.Ending.{Ending}
-use Rattle.teco_debugger.specs.declared.ending.Ending.TheVariants.{Caret, Done, NoText, NoInput, NoMemory, ReadFault, ShowFault}
+use Rattle.teco_debugger.specs.declared.ending.Ending.TheVariants.{Caret, Done, NoText, NoInput, NoMemory, NoString, ReadFault, ShowFault}
 use Prim.Native.Char.{code}
 
 -- what is seen of a serving at a moment: the bytes of the commands that are still to come, where they are known, the
@@ -42,6 +42,7 @@ Obeys line (Some ReadFault) old new before after = ⊥
 Obeys line (Some (Caret number spot)) old new before after = ⊥
 Obeys line (Some (NoText number fault)) old new before after = ⊥
 Obeys line (Some (NoInput fault)) old new before after = ⊥
+Obeys line (Some (NoString fault)) old new before after = ⊥
 
 -- The next line is read and obeyed.
 abbrev pub ServesNext : Option Ending → Stage → Stage → Type 0

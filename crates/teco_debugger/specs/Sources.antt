@@ -5,19 +5,18 @@ use Rattle.std.specs.String.{string_bytes}
 use Rattle.teco_exec.specs.Telling.{IsLastPlace}
 use Rattle.teco_exec.specs.declared.place.Call.{Call}
 use Rattle.teco_exec.specs.declared.place.Place.{Place}
-use Rattle.teco_store.specs.State.{beginning}
-use Rattle.teco_debugger.specs.Walk.{KeptWalk, meant}
+use Rattle.teco_debugger.specs.Walk.{KeptWalk, base, meant}
 use Rattle.teco_debugger.specs.declared.sources.SourceText.{SourceText}
 use Rattle.teco_debugger.specs.declared.sources.Shown.{Shown}
 use Rattle.teco_debugger.specs.declared.walk.Seen.{Seen}
 
 -- what a run of the string under a limit of n steps shows: how it ended, what it typed, and where it last stood
 pub record IsSeen (walk : KeptWalk) (n : ℕ) (seen : Seen) : Type 0 where
-  pub place : IfSome seen.place (λ p. IsLastPlace (beginning walk.input) walk.text seen.outcome.steps p)
+  pub place : IfSome seen.place (λ p. IsLastPlace (base walk) walk.text seen.outcome.steps p)
   pub told : (seen.place ≡ None) ↔ (seen.outcome.code ≡ None)
-  pub steps : seen.outcome.steps ≡ (meant walk.input walk.text n).steps
-  pub code : seen.outcome.code ≡ (meant walk.input walk.text n).code
-  pub typed : seen.typed.items ≡ (meant walk.input walk.text n).typed
+  pub steps : seen.outcome.steps ≡ (meant (base walk) walk.text n).steps
+  pub code : seen.outcome.code ≡ (meant (base walk) walk.text n).code
+  pub typed : seen.typed.items ≡ (meant (base walk) walk.text n).typed
 
 abbrev pub text_or : Option SourceText → List ℕ → List ℕ
 text_or (Some source) text = source.text.items
@@ -54,6 +53,11 @@ shown_name sources number = if nat_lt 1 (length sources) then name_or_none (slic
 -- where a byte of the string begins in its source; the end of the source, if none is there
 abbrev pub shown_place : SourceText → ℕ → ℕ
 shown_place source at = slice_index_or source.places.items (at - source.from) (length source.text.items)
+
+-- a place of the string as it is shown, in the source that has it
+abbrev pub place_in_source : Option SourceText → ℕ → ℕ
+place_in_source (Some source) at = shown_place source at
+place_in_source None at = at
 
 -- The outermost_place of the open calls is one of the string.
 abbrev pub outermost_shown : SourceText → List Call → List Call

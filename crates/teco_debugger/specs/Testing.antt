@@ -7,7 +7,7 @@ use Rattle.teco_core.specs.Register.{content, register_of}
 use Rattle.teco_store.specs.State.{State}
 use Rattle.teco_exec.specs.StringMeaning.{StringMeaning, string_meaning}
 use Rattle.teco_debugger.specs.Listing.{is_nought}
-use Rattle.teco_debugger.specs.Walk.{KeptWalk, meant}
+use Rattle.teco_debugger.specs.Walk.{KeptWalk, base, meant}
 use Rattle.teco_debugger.specs.declared.testing.TheConstants.{TEST_STEPS}
 
 -- what a string means over a state with `UZ` behind it, which puts the number that it gives into register Z; under a limit of steps
@@ -29,5 +29,5 @@ is_yes m = is_none m.code && (not m.state.is_done && holds_number m.state)
 
 -- It does so over the state after n steps of the walk's string; or there is no string.
 abbrev pub is_met : KeptWalk → ℕ → Option (Vec ℕ Global) → Bool
-is_met walk n (Some test) = is_yes (tried (meant walk.input walk.text n).state test.items)
+is_met walk n (Some test) = is_yes (tried (meant (base walk) walk.text n).state test.items)
 is_met walk n None = true

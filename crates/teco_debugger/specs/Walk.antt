@@ -1,55 +1,76 @@
--- A walk: a command string over an input, and how many steps of it are done.
-use Rattle.std.specs.Prelude.{◌≡◌, ℕ, ◌≤◌, Bool, true, false, List, [], ◌∷◌, length, Option, Some, None}
+-- A walk: a command string over a state, and how many steps of it are done.
+use Rattle.std.specs.Prelude.{◌≡◌, ℕ, ◌+◌, ◌-◌, ◌≤◌, Bool, true, false, List, [], ◌∷◌, ◌++◌, length, take, Option, Some, None}
 use Rattle.teco_core.specs.declared.code.Code.{Code}
 use Rattle.teco_core.specs.declared.code.Code.TheVariants.{Mem, Tty}
 use Rattle.teco_core.specs.declared.limits.TheConstants.{FILE_LIMIT}
-use Rattle.teco_store.specs.State.{State, beginning}
+use Rattle.teco_store.specs.State.{State, paged_beginning}
 use Rattle.teco_store.specs.Turn.{Note}
 use Rattle.teco_exec.specs.StringMeaning.{StringMeaning, string_meaning}
-use Rattle.teco_session.specs.History.{History}
+use Rattle.teco_session.specs.History.{History, NotedString, state_after}
 use Rattle.teco_session.specs.Kept.{history_of, string_at}
 use Rattle.teco_debugger.specs.declared.walk.Walk.TheInside.{Inside}
 
--- the string and its input, how many of its steps are done, and the changes that they made
+-- the state with which its session begins, the strings before, the string, how many of its steps are done, and the changes that
+-- they made
 pub record KeptWalk : Type 0 where
-  pub input : List ℕ
+  pub first : State
+  pub before : List NotedString
   pub text : List ℕ
   pub steps : ℕ
   pub changes : List Note
 
--- what a string means over an input, under a limit of steps
-abbrev pub meant : List ℕ → List ℕ → ℕ → StringMeaning
-meant input text n = string_meaning (beginning input) text n
+-- the state after all of these strings
+abbrev pub after_all : State → List NotedString → State
+after_all first before = state_after first before (length before)
+
+-- the state before the string
+abbrev pub base : KeptWalk → State
+base w = after_all w.first w.before
+
+-- what a string means over a state, under a limit of steps
+abbrev pub meant : State → List ℕ → ℕ → StringMeaning
+meant s text n = string_meaning s text n
 
 -- the state that the string means under a limit of just the steps that are done
 abbrev pub state_there : KeptWalk → State
-state_there w = (meant w.input w.text w.steps).state
+state_there w = (meant (base w) w.text w.steps).state
 
--- the history of a session whose only string is done up to this step
-abbrev pub walked : List ℕ → List ℕ → ℕ → History
-walked input text n = record {
-  first = beginning input;
-  notes = record { text = text; steps = n; state = (meant input text n).state } ∷ [];
-  cursor = 1;
+-- the history of a session after these strings
+abbrev pub led : State → List NotedString → History
+led first before = record { first = first; notes = before; cursor = length before; depth = None }
+
+-- and then a string that is done up to this step
+abbrev pub walked : State → List NotedString → List ℕ → ℕ → History
+walked first before text n = record {
+  first = first;
+  notes = before ++ record { text = text; steps = n; state = (meant (after_all first before) text n).state } ∷ [];
+  cursor = length before + 1;
   depth = None;
 }
 
+-- the strings before the last one that is not undone
+abbrev pub before_last : History → List NotedString
+before_last h = take (h.cursor - 1) h.notes
+
 abbrev pub kept_walk : Inside → KeptWalk
 kept_walk w = record {
-  input = w.input.items;
+  first = paged_beginning w.lines w.input.items;
+  before = before_last (history_of w.session);
   text = w.text.items;
   steps = w.steps;
-  changes = (string_at w.session 0).changes;
+  changes = (string_at w.session (w.session.cursor - 1)).changes;
 }
 
--- The session has come so far by the string.
+-- The session has come so far by the string, from the strings before.
 pub record IsWalk (w : Inside) : Type 0 where
   pub small : length w.input.items ≤ FILE_LIMIT
-  pub came : history_of w.session ≡ walked w.input.items w.text.items w.steps
+  pub came : history_of w.session
+      ≡ walked (paged_beginning w.lines w.input.items) (before_last (history_of w.session)) w.text.items w.steps
 
--- two walks over the same string and input
+-- two walks over the same string, after the same
 pub record SameString (w v : KeptWalk) : Type 0 where
-  pub input : v.input ≡ w.input
+  pub first : v.first ≡ w.first
+  pub before : v.before ≡ w.before
   pub text : v.text ≡ w.text
 
 -- A run that ended by this code did so for want of memory: a terminal in memory fails for that alone.

@@ -4,7 +4,7 @@ use Rattle.std.specs.Ordering.{int_eq}
 use lib.Pointwise.{pointwise}
 use Rattle.teco_core.specs.Register.{Content, content}
 use Rattle.teco_store.specs.State.{State}
-use Rattle.teco_debugger.specs.Walk.{KeptWalk, meant, state_there}
+use Rattle.teco_debugger.specs.Walk.{KeptWalk, base, meant, state_there}
 use Rattle.teco_debugger.specs.declared.watching.Watch.{Watch}
 use Rattle.teco_debugger.specs.declared.watching.Watch.TheVariants.{Register, Pointer, Length}
 use Rattle.teco_debugger.specs.declared.watching.Way.{Way}
@@ -22,7 +22,7 @@ is_same Length s t = length s.text == length t.text
 
 -- After n steps of the string it is as it is here, where the walk stands.
 abbrev pub is_as_here : Watch → KeptWalk → ℕ → Bool
-is_as_here watch walk n = is_same watch (state_there walk) (meant walk.input walk.text n).state
+is_as_here watch walk n = is_same watch (state_there walk) (meant (base walk) walk.text n).state
 
 -- It is so after each of some steps, from one up to another, which is not among them.
 abbrev pub AreAsHere : Watch → KeptWalk → ℕ → ℕ → Type 0
@@ -52,5 +52,5 @@ IsLastOther watch walk None = AreAsHere watch walk 0 walk.steps
 
 -- The nearest step at which it differs: on, up to the last that the string takes under the limit, or back.
 abbrev pub IsNearestOther : Way → Watch → KeptWalk → ℕ → Option ℕ → Type 0
-IsNearestOther On watch walk limit to = IsFirstOther watch walk walk.steps (meant walk.input walk.text limit).steps to
+IsNearestOther On watch walk limit to = IsFirstOther watch walk walk.steps (meant (base walk) walk.text limit).steps to
 IsNearestOther Back watch walk limit to = IsLastOther watch walk to

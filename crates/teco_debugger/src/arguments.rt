@@ -16,6 +16,7 @@ pub struct Texts {
     pub word: Option<String>,
     pub files: Vec<String>,
     pub bytes: Option<String>,
+    pub session: Option<String>,
     pub input: Option<String>,
 }
 
@@ -52,16 +53,19 @@ pub fn texts_in<'a>(alloc: Global, matches: &ArgMatches<'a>) -> Result<Texts, No
     ensures word { IfOk result (λ t. first_of (codes "execute") (rows_of (found_of matches.now)) ≡ option_map string_bytes t.word) }
     ensures files { IfOk result (λ t. option_texts (codes "file") (rows_of (found_of matches.now)) ≡ map string_bytes t.files.items) }
     ensures bytes { IfOk result (λ t. first_of (codes "bytes") (rows_of (found_of matches.now)) ≡ option_map string_bytes t.bytes) }
+    ensures session { IfOk result (λ t. first_of (codes "session") (rows_of (found_of matches.now)) ≡ option_map string_bytes t.session) }
     ensures input { IfOk result (λ t. first_of (codes "input") (rows_of (found_of matches.now)) ≡ option_map string_bytes t.input) }
 {
     let word = text_at(alloc, matches, "execute")?;
     let files = texts_at(alloc, matches, "file")?;
     let bytes = text_at(alloc, matches, "bytes")?;
+    let session = text_at(alloc, matches, "session")?;
     let input = text_at(alloc, matches, "input")?;
     Ok(Texts {
         word,
         files,
         bytes,
+        session,
         input,
     })
 }

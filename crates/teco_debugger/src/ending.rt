@@ -2,8 +2,9 @@
 ghost use Rattle.std.specs.Prelude.{◌≡◌, ◌<◌, ◌++◌, IfOk, OnErr};
 ghost use Rattle.std.specs.String.{string_bytes};
 ghost use Rattle.teco_debugger.specs.declared.reading.FileFault.TheVariants.{Unread};
-ghost use Rattle.teco_debugger.specs.Ending.{TellsEnding, caret_words, ending_line, fault_words, input_name, string_name, status_of_ending, told_line};
+ghost use Rattle.teco_debugger.specs.Ending.{bytes_word, TellsEnding, TellsTorn, caret_words, changed_words, ending_line, fault_words, few_words, input_name, status_of_ending, string_name, string_words, told_line, torn_line};
 
+use crate::kept::StringFault;
 use crate::line::{DebuggerLine, Origin};
 use crate::reading::FileFault;
 use std::alloc::Global;
@@ -26,6 +27,8 @@ pub enum Ending {
     NoInput(FileFault),
     /// At this spot of the source of this number a caret stands before what it cannot stand before.
     Caret(usize, Spot),
+    /// The session's file has no such string.
+    NoString(StringFault),
     NoMemory,
     /// The commands cannot be read.
     ReadFault,
@@ -52,7 +55,7 @@ fn string_name(line: &DebuggerLine, number: usize) -> &str
             Some(name) => name.as_str(),
             None => "--execute",
         },
-        Origin::Bytes(name) => name.as_str(),
+        Origin::Bytes(name) | Origin::Session(name, _) => name.as_str(),
     }
 }
 
@@ -99,6 +102,70 @@ fn told_fault(alloc: Global, name: &str, fault: FileFault) -> Result<String, NoM
     }
 }
 
+/// A line of a session's file with a line that was changed.
+fn told_changed(alloc: Global, name: &str, number: usize) -> Result<String, NoMemory>
+    ensures { IfOk result (λ text. string_bytes text ≡ told_line (changed_words name.now number)) }
+{
+    format!(in alloc;
+        "teco-debug: line {number} after the head of {name} is not as it was written\n"
+    )
+}
+
+/// A line of a session's file with so many strings, and none of the number.
+fn told_few(alloc: Global, name: &str, strings: usize) -> Result<String, NoMemory>
+    ensures { IfOk result (λ text. string_bytes text ≡ told_line (few_words name.now strings)) }
+{
+    format!(in alloc; "teco-debug: {name} has no such string, but {strings}\n")
+}
+
+/// A line of some words, a name and more words.
+fn told_of(alloc: Global, what: &str, name: &str, words: &str) -> Result<String, NoMemory>
+    ensures { IfOk result (λ text. string_bytes text ≡ told_line (what.now ++ (name.now ++ words.now))) }
+{
+    format!(in alloc; "teco-debug: {what}{name}{words}\n")
+}
+
+/// A line of a session's file that has no such string.
+fn told_string(alloc: Global, name: &str, fault: StringFault) -> Result<String, NoMemory>
+    ensures { IfOk result (λ text. string_bytes text ≡ told_line (string_words name.now fault)) }
+{
+    match fault {
+        StringFault::Version => told(alloc, name, " is no session of this version"),
+        StringFault::Head => told_of(alloc, "the head of ", name, " is not as it was written"),
+        StringFault::Changed(number) => told_changed(alloc, name, number),
+        StringFault::Replay => told_of(alloc, "a string of ", name, " does not run as it ran"),
+        StringFault::NoStrings => told(alloc, name, " has no string"),
+        StringFault::NoString(strings) => told_few(alloc, name, strings),
+    }
+}
+
+/// One byte, or several.
+fn bytes_word(torn: usize) -> &'static str
+    ensures { result.now ≡ bytes_word torn }
+{
+    if torn == 1 { " byte" } else { " bytes" }
+}
+
+/// The line of a file with so many bytes of a line that has no end.
+fn torn_line(alloc: Global, line: &DebuggerLine, torn: usize) -> Result<String, NoMemory>
+    ensures { IfOk result (λ text. string_bytes text ≡ torn_line line.now torn) }
+{
+    let name = string_name(line, 0);
+    let word = bytes_word(torn);
+    format!(in alloc; "teco-debug: {name}: a torn end is left out, {torn}{word}\n")
+}
+
+/// Tells on standard error of the bytes of a line that has no end, if there are any.
+pub fn tell_torn<E: Terminal>(alloc: Global, line: &DebuggerLine, torn: usize, errors: &mut E)
+    ensures { TellsTorn line.now torn (E.screen errors.old) (E.screen errors.new) }
+{
+    if torn == 0 {
+        return;
+    }
+    let text = torn_line(alloc, line, torn).ok();
+    tell(&text, NO_MEMORY, errors);
+}
+
 /// What is told: a line, or nothing.
 fn line_of(alloc: Global, line: &DebuggerLine, ending: Ending) -> Result<String, NoMemory>
     ensures ok { IfOk result (λ text. string_bytes text ≡ ending_line line.now ending) }
@@ -109,6 +176,7 @@ fn line_of(alloc: Global, line: &DebuggerLine, ending: Ending) -> Result<String,
         Ending::NoText(number, fault) => told_fault(alloc, string_name(line, number), fault),
         Ending::NoInput(fault) => told_fault(alloc, input_name(line), fault),
         Ending::Caret(number, spot) => told_caret(alloc, string_name(line, number), spot),
+        Ending::NoString(fault) => told_string(alloc, string_name(line, 0), fault),
         Ending::NoMemory => told(alloc, "", "no memory"),
         Ending::ReadFault => told(alloc, "", "cannot read commands"),
         Ending::ShowFault => told(alloc, "", "cannot show"),

@@ -1,9 +1,10 @@
 //! The program's command line.
 ghost use Rattle.clap.specs.Words.{found_of, one_of, rows_of};
-ghost use Rattle.std.specs.Prelude.{◌≡◌, ◌≤◌, IfErr, IfOk, codes, map, option_map};
+ghost use Rattle.std.specs.Prelude.{◌≡◌, ◌≤◌, IfErr, IfOk, None, OnOk, codes, map};
 ghost use Rattle.std.specs.String.{string_bytes};
 ghost use Rattle.teco_cli.specs.OptionTable.{rule_by};
-ghost use Rattle.teco_debugger.specs.CommandLine.{IsToldFaulty, IsLimit, IsMisgiven, IsOrigin, LacksLine, LineHas, WordsSay, WordsSayNone, debug_rules};
+ghost use Rattle.teco_cli.specs.Values.{text_behind};
+ghost use Rattle.teco_debugger.specs.CommandLine.{IsLimit, IsMisgiven, IsNumberIn, IsToldFaulty, LacksLine, LineHas, WordsSay, WordsSayNone, debug_rules, fault_in, origin_of};
 
 use crate::arguments::{Texts, texts_in};
 use clap::ArgMatches;
@@ -18,11 +19,19 @@ const STEPS: u64 = 1_000_000;
 const USAGE: &str = "teco-debug [OPTIONS] [INPUT]";
 
 /// What is told of a line that gives no command string.
-const NONE: &str = "one of '--execute <STRINGS>', '--file <FILE>' and '--bytes <FILE>' is needed";
+const NONE: &str =
+    "one of '--execute <STRINGS>', '--file <FILE>', '--bytes <FILE>' and '--session <FILE>' is needed";
 
 /// What is told of one that gives it as sources and as bytes.
 const MANY: &str =
     "the argument '--bytes <FILE>' cannot be used with '--file <FILE>' or '--execute <STRINGS>'";
+
+/// What is told of one that gives it as a string of a session, and more.
+const BESIDE: &str =
+    "the argument '--session <FILE>' cannot be used with '--execute <STRINGS>', '--file <FILE>', '--bytes <FILE>' or INPUT";
+
+/// What is told of one that gives the number of a string, and no session.
+const ALONE: &str = "the argument '--string <N>' needs '--session <FILE>'";
 
 /// Where the command string comes from.
 #[derive(Drop)]
@@ -31,6 +40,8 @@ pub enum Origin {
     Sources(Vec<String>, Option<String>),
     /// The file of this name, as it is.
     Bytes(String),
+    /// The session that the file of this name keeps, and the number of the string, from 1 on, if that is given.
+    Session(String, Option<u64>),
 }
 
 /// What the command line says.
@@ -53,7 +64,7 @@ static PROGRAM: Program = Program {
 };
 
 /// Every option, in the order of the help, and then the input.
-static ARGUMENTS: [OptionRow; 5] = [
+static ARGUMENTS: [OptionRow; 7] = [
     OptionRow {
         name: "execute",
         short: Some('e'),
@@ -74,6 +85,20 @@ static ARGUMENTS: [OptionRow; 5] = [
         takes: Takes::Text,
         value: "FILE",
         help: "The file that the command string is read from, as it is",
+    },
+    OptionRow {
+        name: "session",
+        short: None,
+        takes: Takes::Text,
+        value: "FILE",
+        help: "The file of a session, as teco --session keeps it, for one of its strings",
+    },
+    OptionRow {
+        name: "string",
+        short: None,
+        takes: Takes::Number(1, MOST_STEPS),
+        value: "N",
+        help: "The number of that string, from 1; without it the last that is not undone",
     },
     OptionRow {
         name: "limit",
@@ -115,22 +140,40 @@ fn faulty_line(alloc: Global, why: &str) -> LineFault
     }
 }
 
-/// Where the string comes from, by the texts that are given: sources, or the bytes of a file.
-fn origin_of(
-    alloc: Global,
-    word: Option<String>,
-    files: Vec<String>,
-    bytes: Option<String>,
-) -> Result<Origin, LineFault>
-    ensures origin { IfOk result (IsOrigin (option_map string_bytes word) (map string_bytes files.items) (option_map string_bytes bytes)) }
-    ensures refused { IfErr result (IsMisgiven (option_map string_bytes word) (map string_bytes files.items) (option_map string_bytes bytes)) }
+/// Why a line is faulty that gives such texts and the number of a string, if it is.
+fn fault_in(texts: &Texts, number: Option<u64>) -> Option<&'static str>
+    ensures { text_behind result ≡ fault_in texts.now number }
 {
-    let has_sources = word.is_some() || !files.is_empty();
-    match (has_sources, bytes) {
-        (true, None) => Ok(Origin::Sources(files, word)),
-        (false, Some(name)) => Ok(Origin::Bytes(name)),
-        (true, Some(_)) => Err(faulty_line(alloc, MANY)),
-        (false, None) => Err(faulty_line(alloc, NONE)),
+    let has_sources = texts.word.is_some() || !texts.files.is_empty();
+    let has_bytes = texts.bytes.is_some();
+    if texts.session.is_some() {
+        let has_more = has_sources || has_bytes || texts.input.is_some();
+        return if has_more { Some(BESIDE) } else { None };
+    }
+    if has_sources && has_bytes {
+        Some(MANY)
+    } else if !has_sources && !has_bytes {
+        Some(NONE)
+    } else if number.is_some() {
+        Some(ALONE)
+    } else {
+        None
+    }
+}
+
+/// Where the string comes from, by the texts that are given: a session, the bytes of a file, or sources.
+fn origin_of(
+    session: Option<String>,
+    bytes: Option<String>,
+    sources: (Vec<String>, Option<String>),
+    number: Option<u64>,
+) -> Origin
+    ensures { result ≡ origin_of session bytes sources.0 sources.1 number }
+{
+    match (session, bytes) {
+        (Some(name), _) => Origin::Session(name, number),
+        (None, Some(name)) => Origin::Bytes(name),
+        (None, None) => Origin::Sources(sources.0, sources.1),
     }
 }
 
@@ -145,23 +188,39 @@ fn limit_at(matches: &ArgMatches) -> u64
         .min(MOST_STEPS)
 }
 
-/// The line with these texts and this limit.
-fn line_with(alloc: Global, texts: Texts, limit: u64) -> Result<DebuggerLine, LineFault>
-    ensures limit { IfOk result (λ line. line.limit ≡ limit) }
-    ensures origin { IfOk result (λ line. IsOrigin (option_map string_bytes texts.word) (map string_bytes texts.files.items)
-        (option_map string_bytes texts.bytes) line.origin) }
-    ensures input { IfOk result (λ line. line.input ≡ texts.input) }
-    ensures refused { IfErr result (IsMisgiven (option_map string_bytes texts.word) (map string_bytes texts.files.items)
-        (option_map string_bytes texts.bytes)) }
+/// The number of the string, if it is given.
+fn number_in(matches: &ArgMatches) -> Option<u64>
+    ensures { IsNumberIn (one_of (codes "string") (rows_of (found_of matches.now))) result }
 {
-    match origin_of(alloc, texts.word, texts.files, texts.bytes) {
-        Ok(origin) => Ok(DebuggerLine {
-            limit,
-            origin,
-            input: texts.input,
-        }),
-        Err(fault) => Err(fault),
+    matches.get_one::<u64>("string")
+}
+
+/// The line with these texts, this number of a string and this limit.
+fn line_with(
+    alloc: Global,
+    texts: Texts,
+    number: Option<u64>,
+    limit: u64,
+) -> Result<DebuggerLine, LineFault>
+    ensures limit { IfOk result (λ line. line.limit ≡ limit) }
+    ensures fits { OnOk result (fault_in texts number ≡ None) }
+    ensures origin { IfOk result (λ line. line.origin ≡ origin_of texts.session texts.bytes texts.files texts.word number) }
+    ensures input { IfOk result (λ line. line.input ≡ texts.input) }
+    ensures refused { IfErr result (IsMisgiven texts number) }
+{
+    if let Some(why) = fault_in(&texts, number) {
+        return Err(faulty_line(alloc, why));
     }
+    Ok(DebuggerLine {
+        limit,
+        origin: origin_of(
+            texts.session,
+            texts.bytes,
+            (texts.files, texts.word),
+            number,
+        ),
+        input: texts.input,
+    })
 }
 
 /// The line that a parse gives.
@@ -171,7 +230,7 @@ fn line_in<'a>(alloc: Global, matches: &ArgMatches<'a>) -> Result<DebuggerLine, 
     ensures refused { IfErr result (LacksLine (rows_of (found_of matches.now))) }
 {
     match texts_in(alloc, matches) {
-        Ok(texts) => line_with(alloc, texts, limit_at(matches)),
+        Ok(texts) => line_with(alloc, texts, number_in(matches), limit_at(matches)),
         Err(NoMemory) => Err(LineFault::NoMemory),
     }
 }

@@ -6,14 +6,16 @@ ghost use Rattle.teco_core.specs.declared.limits.TheConstants.{FILE_LIMIT};
 ghost use Rattle.teco_fs.specs.Reading.{IsInput};
 ghost use Rattle.teco_fs.specs.Seen.{KeepsDisk, host, disk_seen};
 ghost use Rattle.teco_debugger.specs.Program.{HasNoFiles, RetracesBy, ServesFiles, retrace_view};
-ghost use Rattle.teco_debugger.specs.Reading.{AddsFiles, AddsWord, CannotRead, IsInputOf, IsOfBytes, IsOfSources, IsStringOf, LacksEach, LacksFile, LacksSources, LacksString, LacksWord};
+ghost use Rattle.teco_debugger.specs.Begun.{BeginsFrom, CannotRead, IsOver};
+ghost use Rattle.teco_debugger.specs.Reading.{AddsFiles, AddsWord, IsInputOf, IsOfBytes, IsOfSources, LacksEach, LacksFile, InputIsMissing, LacksSources, LacksWord};
 
-use crate::Walk;
 use crate::debugger::Debugger;
-use crate::ending::{Ending, NO_MEMORY, conclude};
+use crate::ending::{Ending, NO_MEMORY, conclude, tell_torn};
+use crate::kept::kept_string;
 use crate::line::{DebuggerLine, Origin};
 use crate::reading::{Given, read_file};
 use crate::serving::serve;
+use crate::{SourceText, Walk};
 use std::alloc::Global;
 use std::io::BufRead;
 use std::process::ExitCode;
@@ -111,26 +113,12 @@ fn string_of_bytes<D: Disk>(alloc: Global, name: &str, disk: &mut D) -> Result<G
     })
 }
 
-/// The command string of the line.
-fn string_of<D: Disk>(alloc: Global, line: &DebuggerLine, disk: &mut D) -> Result<Given, Ending>
-    ensures string { IfOk result (IsStringOf (D.seen disk.old).files line.now.origin) }
-    ensures lacks { let seen = disk_seen D.Disk D.Input.Source in
-        IfErr result (LacksString (D.seen disk.old).files (seen disk.new) line.now.origin) }
-    ensures keeps { let seen = disk_seen D.Disk D.Input.Source in
-        KeepsDisk (seen disk.old) (seen disk.new) }
-{
-    match &line.origin {
-        Origin::Sources(names, word) => string_of_sources(alloc, names, word, disk),
-        Origin::Bytes(name) => string_of_bytes(alloc, name.as_str(), disk),
-    }
-}
-
 /// The input of the line, which is empty if none is named.
 fn input_of<D: Disk>(alloc: Global, line: &DebuggerLine, disk: &mut D) -> Result<Vec<u8>, Ending>
     ensures input { IfOk result (λ input. IsInputOf (D.seen disk.old).files line.now.input input.items) }
     ensures most { IfOk result (λ input. vec_len input ≤ FILE_LIMIT) }
     ensures lacks { let seen = disk_seen D.Disk D.Input.Source in
-        IfErr result (CannotRead (D.seen disk.old).files (seen disk.new) line.now) }
+        IfErr result (InputIsMissing (D.seen disk.old).files (seen disk.new) line.now.input) }
     ensures keeps { let seen = disk_seen D.Disk D.Input.Source in
         KeepsDisk (seen disk.old) (seen disk.new) }
 {
@@ -143,25 +131,86 @@ fn input_of<D: Disk>(alloc: Global, line: &DebuggerLine, disk: &mut D) -> Result
     }
 }
 
+/// A walk over the string of the line, and what its commands need beside it.
+#[derive(Drop)]
+struct Begun {
+    walk: Walk,
+    sources: Vec<SourceText>,
+    /// How many bytes of a line that has no end come behind the lines of a session's file.
+    torn: usize,
+}
+
+/// A walk over a string that was read, over the input of the line.
+fn begun_with<D: Disk>(
+    alloc: Global,
+    given: Given,
+    line: &DebuggerLine,
+    disk: &mut D,
+) -> Result<Begun, Ending>
+    ensures walk { IfOk result (λ begun. IsOver (D.seen disk.old).files line.now.input given begun) }
+    ensures lacks { let seen = disk_seen D.Disk D.Input.Source in
+        IfErr result (InputIsMissing (D.seen disk.old).files (seen disk.new) line.now.input) }
+    ensures keeps { let seen = disk_seen D.Disk D.Input.Source in
+        KeepsDisk (seen disk.old) (seen disk.new) }
+{
+    let input = input_of(alloc, line, disk)?;
+    Ok(Begun {
+        walk: Walk::new(input, given.text)?,
+        sources: given.sources,
+        torn: 0,
+    })
+}
+
+/// A walk over the string of the line.
+fn begun_by<D: Disk>(alloc: Global, line: &DebuggerLine, disk: &mut D) -> Result<Begun, Ending>
+    ensures begins { IfOk result (BeginsFrom (D.seen disk.old).files line.now.origin line.now.input) }
+    ensures lacks { let seen = disk_seen D.Disk D.Input.Source in
+        IfErr result (CannotRead (D.seen disk.old).files (seen disk.new) line.now) }
+    ensures keeps { let seen = disk_seen D.Disk D.Input.Source in
+        KeepsDisk (seen disk.old) (seen disk.new) }
+{
+    match &line.origin {
+        Origin::Sources(names, word) => {
+            let given = string_of_sources(alloc, names, word, disk)?;
+            begun_with(alloc, given, line, disk)
+        }
+        Origin::Bytes(name) => {
+            let given = string_of_bytes(alloc, name.as_str(), disk)?;
+            begun_with(alloc, given, line, disk)
+        }
+        Origin::Session(name, number) => {
+            let kept = kept_string(alloc, name.as_str(), *number, disk)?;
+            Ok(Begun {
+                walk: kept.walk,
+                sources: Vec::new(alloc),
+                torn: kept.torn,
+            })
+        }
+    }
+}
+
 /// Serves the commands over what the line asks for; says how that ends, or why there is nothing to serve them over.
-fn retrace<C: BufRead, T: Terminal, D: Disk>(
+fn retrace<C: BufRead, T: Terminal, E: Terminal, D: Disk>(
     alloc: Global,
     line: &DebuggerLine,
     prompts: bool,
     commands: &mut C,
     term: &mut T,
+    errors: &mut E,
     disk: &mut D,
 ) -> Result<Ending, Ending>
     ensures serves { let view = retrace_view (disk_seen D.Disk D.Input.Source) C.remaining T.screen in
-        IfOk result (ServesFiles view line.now prompts (host disk.old commands.old term.old) (host disk.new commands.new term.new)) }
+        IfOk result (ServesFiles view E.screen line.now prompts (host disk.old commands.old term.old) (host disk.new commands.new term.new)
+        errors.old errors.new) }
     ensures lacks { let view = retrace_view (disk_seen D.Disk D.Input.Source) C.remaining T.screen in
-        IfErr result (HasNoFiles view line.now (host disk.old commands.old term.old) (host disk.new commands.new term.new)) }
+        IfErr result (HasNoFiles view E.screen line.now (host disk.old commands.old term.old) (host disk.new commands.new term.new)
+        errors.old errors.new) }
     ensures keeps { let seen = disk_seen D.Disk D.Input.Source in
         KeepsDisk (seen disk.old) (seen disk.new) }
 {
-    let given = string_of(alloc, line, disk)?;
-    let input = input_of(alloc, line, disk)?;
-    let mut debugger = Debugger::new(Walk::new(input, given.text)?, line.limit, given.sources);
+    let begun = begun_by(alloc, line, disk)?;
+    tell_torn(alloc, line, begun.torn, errors);
+    let mut debugger = Debugger::new(begun.walk, line.limit, begun.sources);
     Ok(serve(alloc, &mut debugger, prompts, commands, term))
 }
 
@@ -182,7 +231,7 @@ pub fn program<C: BufRead, T: Terminal, E: Terminal, D: Disk>(
 {
     match line_in::<DebuggerLine>(alloc, words) {
         Ok(line) => {
-            let ending = match retrace(alloc, &line, prompts, commands, term, disk) {
+            let ending = match retrace(alloc, &line, prompts, commands, term, errors, disk) {
                 Ok(ending) => ending,
                 Err(ending) => ending,
             };

@@ -1,7 +1,7 @@
 //! The sources of a command string, and what is shown of its places.
 ghost use Rattle.std.specs.Prelude.{◌≡◌, ◌∷◌, ℕ, IfOk, option_copied, slice_get};
-ghost use Rattle.teco_debugger.specs.Sources.{IsShownAt, IsShownPlace, IsShownSeen, name_or_none, number_at, number_of_place, outermost_place, shown_name, shown_place, shown_string};
-ghost use Rattle.teco_debugger.specs.Walk.{meant};
+ghost use Rattle.teco_debugger.specs.Sources.{IsShownAt, IsShownPlace, IsShownSeen, name_or_none, number_at, number_of_place, outermost_place, place_in_source, shown_name, shown_place, shown_string};
+ghost use Rattle.teco_debugger.specs.Walk.{base, meant};
 
 use crate::{Seen, Walk};
 use teco_core::NoMemory;
@@ -59,7 +59,7 @@ pub fn shown_name(sources: &[SourceText], number: usize) -> &str
 }
 
 /// The number of the source that has a place of the string.
-fn number_at(sources: &[SourceText], at: usize) -> usize
+pub fn number_at(sources: &[SourceText], at: usize) -> usize
     ensures { result ≡ number_at sources.now at }
 {
     let mut begun: usize = 0;
@@ -101,6 +101,16 @@ fn shown_place(source: &SourceText, at: usize) -> usize
     }
 }
 
+/// A place of the string as it is shown, if there is a source that has it.
+pub fn place_in_source(source: Option<&SourceText>, at: usize) -> usize
+    ensures { result ≡ place_in_source (option_copied source.entry) at }
+{
+    match source {
+        Some(source) => shown_place(source, at),
+        None => at,
+    }
+}
+
 /// Makes a place of a run the one that is shown.
 fn show_in(source: &SourceText, place: &mut Place)
     ensures { IsShownPlace source.now place.old place.new }
@@ -130,8 +140,8 @@ fn show_seen(sources: &[SourceText], number: usize, seen: &mut Seen)
 /// What a run of the string under a limit of `n` steps shows, with its place as that is shown.
 pub fn look(walk: &Walk, sources: &[SourceText], n: u64) -> Result<Shown, NoMemory>
     ensures seen { IfOk result (IsShownAt sources.now walk.now n) }
-    ensures steps { IfOk result (λ shown. shown.seen.outcome.steps ≡ (meant walk.now.input walk.now.text n).steps) }
-    ensures typed { IfOk result (λ shown. shown.seen.typed.items ≡ (meant walk.now.input walk.now.text n).typed) }
+    ensures steps { IfOk result (λ shown. shown.seen.outcome.steps ≡ (meant (base walk.now) walk.now.text n).steps) }
+    ensures typed { IfOk result (λ shown. shown.seen.typed.items ≡ (meant (base walk.now) walk.now.text n).typed) }
 {
     let mut seen = walk.look(n)?;
     let number = number_of_place(sources, seen.place.as_ref());

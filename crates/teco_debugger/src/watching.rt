@@ -1,6 +1,6 @@
 //! What is watched, and the nearest step at which it differs from here.
 ghost use Rattle.std.specs.Prelude.{◌≡◌, IfOk, Some, if◌then◌else◌};
-ghost use Rattle.teco_debugger.specs.Walk.{SameString, meant};
+ghost use Rattle.teco_debugger.specs.Walk.{SameString, base, meant};
 ghost use Rattle.teco_core.specs.Register.{content};
 ghost use Rattle.teco_debugger.specs.Watching.{IsFirstOther, IsLastOther, IsNearestOther, is_same, is_same_content};
 ghost use Rattle.teco_store.specs.State.{state_of};
@@ -92,7 +92,7 @@ fn last_other(walk: &Walk, watch: &Watch, other: &mut Walk) -> Result<Option<u64
 /// Another walk over the same string, after its first `n` steps or all that it takes.
 fn another(walk: &Walk, n: u64) -> Result<Walk, NoMemory>
     ensures string { IfOk result (SameString walk.now) }
-    ensures steps { IfOk result (λ other. other.steps ≡ (meant walk.now.input walk.now.text n).steps) }
+    ensures steps { IfOk result (λ other. other.steps ≡ (meant (base walk.now) walk.now.text n).steps) }
 {
     meaning_laws();
     let mut other = walk.anew()?;

@@ -7,6 +7,7 @@ returns-after-retrace g c = inr (record {
   line = c.in-Ok.line;
   line_is = c.in-Ok.ensures.line;
   ending = c.match-retrace.ending;
+  between = c.retrace.new.errors;
   run = elim c.match-retrace.branch [
     | in-Ok-retrace w ↦ record { keeps = c.retrace.ensures.keeps; ends = inr (rw w.ending-is w.in-Ok-retrace.ensures.serves) }
     | in-Err-retrace w ↦ record { keeps = c.retrace.ensures.keeps; ends = inl (rw w.ending-is w.in-Err-retrace.ensures.lacks) }

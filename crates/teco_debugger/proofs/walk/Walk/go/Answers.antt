@@ -1,12 +1,17 @@
-use Rattle.std.proofs.Common.{arith}
+use Rattle.std.proofs.Common.{◌≡◌, arith}
+use Rattle.teco_store.specs.State.{State, paged_beginning}
+use Rattle.teco_session.specs.Kept.{history_of}
+use Rattle.teco_debugger.specs.Walk.{before_last, walked}
 use Rattle.teco_debugger.proofs.Returning.{cut_back}
+use Rattle.teco_debugger.proofs.Walked.{is_walked}
 use Rattle.teco_debugger.proofs.walk.Walk.go.Goals as goal
 
 -- a rewind to a step that was done comes to it
 pub invariant_of-self : goal.invariant_of-self
 invariant_of-self c =
     let walk = c.self.inside in
-    record {
-      small = c.self.invariant.small;
-      came = cut_back c.rewind.result c.args.n walk.input.items walk.text.items walk.steps _ _ c.self.invariant.came (omega arith) c.rewind.ensures.offers.1 c.rewind.ensures.history;
-    }
+    let first : State = paged_beginning walk.lines walk.input.items in
+    let before = before_last (history_of walk.session) in
+    let came : history_of c.rewind.new.self ≡ walked first before walk.text.items c.args.n =
+    cut_back c.rewind.result c.args.n first before walk.text.items walk.steps _ _ c.self.invariant.came (omega arith) c.rewind.ensures.offers.1 c.rewind.ensures.history in
+    record { small = c.self.invariant.small; came = is_walked _ first before walk.text.items c.args.n came }

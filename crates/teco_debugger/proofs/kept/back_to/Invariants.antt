@@ -1,0 +1,10 @@
+use Rattle.std.proofs.Common.{◌≡◌}
+use Rattle.teco_session.specs.Kept.{history_of}
+use Rattle.teco_debugger.specs.Kept.{cursor_at}
+use Rattle.teco_debugger.proofs.kept.back_to.Given as goal
+
+abbrev pub invariant-loop-done : goal.invariant-loop-done
+invariant-loop-done l = history_of l.session ≡ cursor_at (history_of l.initial.session) l.done
+
+abbrev pub decreases-loop-done : goal.decreases-loop-done
+decreases-loop-done l = l.done
