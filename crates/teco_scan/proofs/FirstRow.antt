@@ -13,7 +13,7 @@ use Rattle.teco_scan.specs.declared.command.Row.{Row}
 use Rattle.teco_scan.specs.declared.command.Name.{Name}
 use Rattle.teco_scan.specs.declared.command.Name.TheVariants.{One, Two, Three, Control}
 use Rattle.teco_scan.specs.declared.command.Form.{Form}
-use Rattle.teco_scan.specs.declared.command.Form.TheVariants.{Register, Tag, Test, Text}
+use Rattle.teco_scan.specs.declared.command.Form.TheVariants.{Register, Replace, Tag, Test, Text}
 use Rattle.teco_scan.specs.declared.command.RegisterCommand.{RegisterCommand}
 use Rattle.teco_scan.specs.declared.command.TextCommand.{TextCommand}
 use Rattle.teco_scan.specs.declared.command.Test as tests
@@ -159,14 +159,33 @@ pub run_read : (xs : List ℕ) (at to : ℕ) → at < length xs → is_digit (ge
 unfolding token_from
 run_read xs at to lt e rest run = rw (ap begins_run (front xs at lt) ∙ e, run, rest)
 
+-- what is scanned where a command of this form is named up to a place, and this follows it
+pub named_read : (xs : List ℕ) (at to : ℕ) (form : Form) (r : Reading Instruction) → at < length xs → is_digit (get_or xs at 0) ≡ false
+    → named_at ROWS (drop at xs) ≡ Ok ((no_modifiers, form), drop to xs)
+    → operand_at form no_modifiers (drop to xs) ≡ r → scanned (ordered no_modifiers r) ≡ scanned (token_from ROWS (drop at xs))
+named_read xs at to form r lt e named operand =
+    sym (ap scanned (token_named (drop at xs) (no_run xs at lt e) ∙ ap with_operand named ∙ ap (ordered no_modifiers) operand))
+
 -- what is scanned where the byte at a place alone names a command of this form, and this follows it
 pub lone_read : (xs : List ℕ) (at : ℕ) (form : Form) (r : Reading Instruction) → at < length xs → is_digit (get_or xs at 0) ≡ false
     → ((bs : List ℕ) → named_at ROWS (get_or xs at 0 ∷ bs) ≡ Ok ((no_modifiers, form), bs))
     → operand_at form no_modifiers (drop (at + 1) xs) ≡ r → scanned (ordered no_modifiers r) ≡ scanned (token_from ROWS (drop at xs))
 lone_read xs at form r lt e named operand =
-    let read : token_from ROWS (drop at xs) ≡ ordered no_modifiers (operand_at form no_modifiers (drop (at + 1) xs)) =
-    token_named (drop at xs) (no_run xs at lt e) ∙ ap with_operand (ap (named_at ROWS) (front xs at lt) ∙ named (drop (at + 1) xs)) in
-    sym (ap scanned (read ∙ ap (ordered no_modifiers) operand))
+    named_read xs at (at + 1) form r lt e (ap (named_at ROWS) (front xs at lt) ∙ named (drop (at + 1) xs)) operand
+
+-- of the rows without modifiers, that of `FS` is the one that begins so
+replace_named : (bs : List ℕ) → named_at ROWS (70 ∷ 83 ∷ bs) ≡ Ok ((no_modifiers, Replace), bs)
+unfolding named_at modifiers_at row_at after_name after_letter
+replace_named bs = refl
+
+-- `FS` at a place names its command
+pub replace_here : (xs : List ℕ) (at : ℕ) → at + 1 < length xs → get_or xs at 0 ≡ 70 → get_or xs (at + 1) 0 ≡ 83
+    → named_at ROWS (drop at xs) ≡ Ok ((no_modifiers, Replace), drop (at + 2) xs)
+replace_here xs at lt first second =
+    let here : drop at xs ≡ get_or xs at 0 ∷ drop (at + 1) xs = front xs at (omega (arith, lt)) in
+    let next : drop (at + 1) xs ≡ get_or xs (at + 1) 0 ∷ drop (at + 1 + 1) xs = front xs (at + 1) lt in
+    let two : at + 1 + 1 ≡ at + 2 = omega arith in
+    rw (here, next, first, second, two) (replace_named (drop (at + 2) xs))
 
 -- what follows a command on a register
 pub register_read : (form : Form) (c : RegisterCommand) (bs : List ℕ) (r : Reading ℕ) → form ≡ Register c → register_at bs ≡ r

@@ -1,4 +1,4 @@
-//! Tokens whose command the first byte alone names. Most tokens are: so each is read by what its byte tells, and not by the table.
+//! Tokens whose command the first byte alone names, and a plain `FS`. Most tokens are: so each is read by its bytes, and not by the table.
 ghost use Rattle.std.specs.Prelude.{◌≡◌, ◌<◌, ◌≤◌, length, drop, IfSome, slice_index, true};
 ghost use Rattle.teco_core.specs.Ascii.{is_digit};
 ghost use Rattle.teco_scan.specs.Led.{Begins, IsLed};
@@ -8,7 +8,7 @@ ghost use Rattle.teco_scan.specs.declared.command.Form.TheVariants as form;
 
 use crate::command::{Bare, BlockMark, Form, RegisterCommand, TextCommand};
 use crate::names::lone_form;
-use crate::operand::{register_at, tag_name_at, test_at, text_at};
+use crate::operand::{register_at, replace_at, tag_name_at, test_at, text_at};
 use crate::table::NONE;
 use crate::token::{Found, Item, Span, Token, TokenKind};
 
@@ -144,6 +144,22 @@ pub fn text_token(
 {
     match text_at(usual, text, from + 1) {
         Ok((span, to)) => Some(plain(from, to, TokenKind::Item(Item::Text(command, span)))),
+        Err(_) => None,
+    }
+}
+
+/// `FS` without modifiers, in capitals, where the ends of its two texts follow.
+#[inline(always)]
+pub fn replace_token(text: &[u8], at: usize, from: usize) -> Option<Found>
+    requires { Begins text.now at from }
+    ensures read { IfSome result (λ found. found_in text.now found ≡ scan (drop at text.now)) }
+    ensures place { IfSome result (λ found. IsFoundAt text.now at found) }
+{
+    if text.len() - from < 2 || text[from] != b'F' || text[from + 1] != b'S' {
+        return None;
+    }
+    match replace_at(NONE, text, from + 2) {
+        Ok((kind, to)) => Some(plain(from, to, kind)),
         Err(_) => None,
     }
 }

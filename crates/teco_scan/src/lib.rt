@@ -23,8 +23,8 @@ pub use command::{
 };
 pub use gathering::Tags;
 pub use leads::{
-    bare_token, digits_token, end_found, escape_token, lead, mark_token, register_token, tag_token,
-    test_token, text_token,
+    bare_token, digits_token, end_found, escape_token, lead, mark_token, register_token,
+    replace_token, tag_token, test_token, text_token,
 };
 pub use names::lone_form;
 pub use scan::{filler_end, spelling, token_at};

@@ -68,6 +68,7 @@ pub(crate) fn test_at(text: &[u8], at: usize) -> Result<(Test, usize), Code>
 }
 
 /// The byte that ends a text, and where the text begins.
+#[inline(always)]
 #[tactic(auto, unfolding(crate::specs::Scan::delimiter_at))]
 fn delimiter_at(
     modifiers: Modifiers,
@@ -199,8 +200,13 @@ fn set_text_at(modifiers: Modifiers, text: &[u8], at: usize) -> Result<(TokenKin
 }
 
 /// A text and the one to replace it.
+#[inline(always)]
 #[tactic(auto, unfolding(crate::specs::Scan::operand_at))]
-fn replace_at(modifiers: Modifiers, text: &[u8], at: usize) -> Result<(TokenKind, usize), Code>
+pub(crate) fn replace_at(
+    modifiers: Modifiers,
+    text: &[u8],
+    at: usize,
+) -> Result<(TokenKind, usize), Code>
     requires { at ≤ length text.now }
     ensures read { Gives (λ x. (instruction_in text.now x.0, drop x.1 text.now)) result
         (operand_at Form.Replace modifiers (drop at text.now)) }

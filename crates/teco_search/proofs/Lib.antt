@@ -7,6 +7,7 @@ pub mod Past
 pub mod Occurring
 pub mod Literals
 pub mod Halves
+pub mod Windows
 pub mod Begins
 pub mod Numbered
 pub mod Plain

@@ -1,5 +1,5 @@
 -- Worked rows of the definitions.
-use Rattle.std.proofs.Common.{◌≡◌, ℕ, ◌∷◌, [], Some, None, Ok, Err, pos, negsuc, refl, codes}
+use Rattle.std.proofs.Common.{◌≡◌, ℕ, ◌+◌, ◌*◌, ◌%◌, ◌∷◌, [], Some, None, Ok, Err, pos, negsuc, refl, codes, arith}
 use Rattle.teco_core.specs.declared.code.Code.TheVariants.{Ice}
 use Rattle.teco_core.specs.declared.case_mode.CaseMode.{CaseMode}
 use Rattle.teco_core.specs.declared.case_mode.CaseMode.TheVariants.{Exact, Either}
@@ -10,6 +10,8 @@ use Rattle.teco_search.specs.declared.element.Element.{Element}
 use Rattle.teco_search.specs.declared.element.Element.TheVariants.{Among, Except, Blanks}
 use Rattle.teco_search.specs.Reading.{byte_at, item_at, listed_at, items_at, one_byte_at, element_at, elements_at, read}
 use Rattle.teco_search.specs.Element.{is_in, item_admits, admits}
+use Rattle.teco_search.specs.declared.window.TheConstants.{BASE, MODULUS}
+use Rattle.teco_search.specs.Window.{window_value, window_number, IsLeaving}
 use Rattle.teco_search.specs.Occurrence.{Sought, element_end, match_end, match_at, matches, chosen, forward, backward, occurrence}
 
 abbrev plain : ℕ → Element
@@ -84,3 +86,18 @@ run-gives_nothing_back = refl
 run-longest : forward (record { mode = Exact; elements = Blanks ∷ plain 98 ∷ [] }) (codes "a  b") 0 ≡ (1, 4) ∷ []
 unfolding forward chosen matches match_at match_end element_end admits item_admits is_in
 run-longest = refl
+
+number-ab : window_number (codes "xab") 1 2 ≡ 408677766
+unfolding window_value
+number-ab = refl
+
+number-bc : window_number (codes "abc") 1 2 ≡ 722837032
+unfolding window_value
+number-bc = refl
+
+leaving-two : IsLeaving 2459371799 2
+leaving-two = record { small = omega arith; worthless = refl }
+
+-- The number of ab rolls on to that of bc: c enters, and a leaves.
+rolled-on : (408677766 * BASE + 99 + 97 * 2459371799) % MODULUS ≡ 722837032
+rolled-on = refl

@@ -10,3 +10,4 @@ pub mod Search
 pub mod Law
 pub mod Run
 pub mod Shown
+pub mod Window

@@ -32,6 +32,7 @@ impl<'t> Joined<'t> {
     #[inline]
     pub(crate) fn len(&self) -> usize
         ensures value { result ≡ length self.now }
+        ensures room { result + 1 < 2 ^ 64 }
         ensures bytes { AreBytes self.now }
     {
         self.before.len() + self.after.len()

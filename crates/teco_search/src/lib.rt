@@ -9,6 +9,7 @@ mod element;
 mod frequency;
 mod joined;
 mod law;
+mod line_end;
 mod literal;
 mod matching;
 mod passing;
@@ -17,8 +18,10 @@ mod places;
 mod reading;
 mod run;
 mod search;
+mod window;
 
 pub use as_it_stands::{find_plain, is_plain};
 pub use element::{Class, Element, Items, OneByte, SetItem};
 pub use law::{literal_texts, occurrences, search_texts};
+pub use line_end::{first_line_end, last_line_end};
 pub use pattern::{Pattern, count, find, find_forward, matches_at};

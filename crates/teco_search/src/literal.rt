@@ -3,10 +3,14 @@ ghost use Rattle.std.specs.Prelude.{◌≡◌, ◌+◌, ◌^◌, ◌<◌, ◌≤
 ghost use Rattle.memchr.specs.Find.{IsFirst, IsLast, OccursAt, FindsNeedle, FindsLastNeedleBy};
 
 use crate::joined::Joined;
+use crate::window::Needle;
 use memchr::memmem::{Finder, FinderRev};
 
+/// So many starts are looked at one by one. More are told by their numbers, which takes as long as some 30 comparisons.
+const FEW: usize = 32;
+
 /// The first place in a range that has the bytes, by comparing them at each.
-fn first_across(text: &Joined, bytes: &[u8], from: usize, to: usize) -> Option<usize>
+fn first_compared(text: &Joined, bytes: &[u8], from: usize, to: usize) -> Option<usize>
     ensures { IsFirst (OccursAt text.now bytes.now) from to result }
 {
     'starts: for start in from..to {
@@ -17,8 +21,39 @@ fn first_across(text: &Joined, bytes: &[u8], from: usize, to: usize) -> Option<u
     None
 }
 
+/// The first place in a range that has the bytes, by comparing them where the window has their number.
+fn first_told(text: &Joined, bytes: &[u8], from: usize, to: usize) -> Option<usize>
+    requires { to + length bytes.now < 2 ^ 64 }
+    ensures { IsFirst (OccursAt text.now bytes.now) from to result }
+{
+    let needle = Needle::of(bytes);
+    let mut start = from;
+    'starts: while start < to {
+        let Some(like) = needle.first_like(text, start, to) else {
+            return None;
+        };
+        if text.has(like, bytes) {
+            return Some(like);
+        }
+        start = like + 1;
+    }
+    None
+}
+
+/// The first place in a range that has the bytes.
+fn first_across(text: &Joined, bytes: &[u8], from: usize, to: usize) -> Option<usize>
+    ensures { IsFirst (OccursAt text.now bytes.now) from to result }
+{
+    let end = to.min((text.len() + 1).saturating_sub(bytes.len()));
+    if end.saturating_sub(from) <= FEW {
+        first_compared(text, bytes, from, end)
+    } else {
+        first_told(text, bytes, from, end)
+    }
+}
+
 /// The last place in a range that has the bytes, by comparing them at each.
-fn last_across(text: &Joined, bytes: &[u8], from: usize, to: usize) -> Option<usize>
+fn last_compared(text: &Joined, bytes: &[u8], from: usize, to: usize) -> Option<usize>
     ensures { IsLast (OccursAt text.now bytes.now) from to result }
 {
     let mut start = to;
@@ -31,7 +66,38 @@ fn last_across(text: &Joined, bytes: &[u8], from: usize, to: usize) -> Option<us
     None
 }
 
-/// The first place at or after one that has the bytes. Only at the starts whose match lies across both halves are they compared one by one.
+/// The last place in a range that has the bytes, by comparing them where the window has their number.
+fn last_told(text: &Joined, bytes: &[u8], from: usize, to: usize) -> Option<usize>
+    requires { to + length bytes.now < 2 ^ 64 }
+    ensures { IsLast (OccursAt text.now bytes.now) from to result }
+{
+    let needle = Needle::of(bytes);
+    let mut end = to;
+    'ends: while from < end {
+        let Some(like) = needle.last_like(text, from, end) else {
+            return None;
+        };
+        if text.has(like, bytes) {
+            return Some(like);
+        }
+        end = like;
+    }
+    None
+}
+
+/// The last place in a range that has the bytes.
+fn last_across(text: &Joined, bytes: &[u8], from: usize, to: usize) -> Option<usize>
+    ensures { IsLast (OccursAt text.now bytes.now) from to result }
+{
+    let end = to.min((text.len() + 1).saturating_sub(bytes.len()));
+    if end.saturating_sub(from) <= FEW {
+        last_compared(text, bytes, from, end)
+    } else {
+        last_told(text, bytes, from, end)
+    }
+}
+
+/// The first place at or after one that has the bytes. The starts whose match lies across both halves are looked at apart.
 pub(crate) fn first_from(finder: &Finder, text: &Joined, from: usize) -> Option<usize>
     requires some { 0 < length finder.now }
     requires within { from ≤ length text.now }

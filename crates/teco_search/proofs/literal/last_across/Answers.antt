@@ -1,21 +1,16 @@
-use Rattle.std.proofs.Common.{◌-◌, subst, arith, ⊎_elim}
-use Rattle.std.proofs.lemmas.Bool.{both_ways, cases_eq}
-use Rattle.memchr.specs.Find.{OccursAt}
+use Rattle.std.proofs.Common.{◌≡◌, ◌+◌, ◌-◌, length, ap, ◌∙◌}
+use Rattle.std.specs.Prelude.{min}
+use Rattle.teco_search.proofs.Windows.{last_to}
 use Rattle.teco_search.proofs.literal.last_across.Goals as goal
 
-pub returns-then-has : goal.returns-then-has
-returns-then-has c = (
-  record { low = omega arith; high = omega arith; after = λ k low high occurs. c.starts.invariant.none k (omega arith) high occurs },
-  c.has.ensures.holds.0 c.if-has.true,
-)
+pub returns-then-saturating_sub-le-FEW : goal.returns-then-saturating_sub-le-FEW
+returns-then-saturating_sub-le-FEW c =
+    let end : c.min-end.result ≡ min c.args.to (length c.args.text.now + 1 - length c.args.bytes.now) =
+    c.min-end.ensures ∙ ap (min c.args.to) (c.saturating_sub.ensures ∙ ap (λ n. n + 1 - length c.args.bytes.now) c.len.ensures.value) in
+    last_to c.args.text.now c.args.bytes.now c.args.from c.args.to c.min-end.result end c.last_compared.result c.last_compared.ensures
 
-pub starts-preserved : goal.starts-preserved
-starts-preserved c = record {
-  within = omega arith;
-  none = λ k low high occurs. ⊎_elim
-      (λ same. both_ways c.has.result c.if-has.false (c.has.ensures.holds.1 (subst (OccursAt c.args.text.now c.args.bytes.now) same occurs)))
-      (λ other. c.starts.invariant.none k (omega arith) high occurs) (cases_eq k (c.starts.start - 1));
-}
-
-pub returns : goal.returns
-returns c = λ k low high occurs. c.starts.invariant.none k (omega arith) high occurs
+pub returns-else-saturating_sub-le-FEW : goal.returns-else-saturating_sub-le-FEW
+returns-else-saturating_sub-le-FEW c =
+    let end : c.min-end.result ≡ min c.args.to (length c.args.text.now + 1 - length c.args.bytes.now) =
+    c.min-end.ensures ∙ ap (min c.args.to) (c.saturating_sub.ensures ∙ ap (λ n. n + 1 - length c.args.bytes.now) c.len.ensures.value) in
+    last_to c.args.text.now c.args.bytes.now c.args.from c.args.to c.min-end.result end c.last_told.result c.last_told.ensures

@@ -1,6 +1,6 @@
 use Rattle.std.proofs.Common.{◌≤◌}
 use Rattle.memchr.specs.Find.{Nowhere, OccursAt}
-use Rattle.teco_search.proofs.literal.last_across.Given as goal
+use Rattle.teco_search.proofs.literal.last_compared.Given as goal
 
 abbrev pub invariant-starts : goal.invariant-starts
 invariant-starts l = record {
