@@ -6,5 +6,6 @@ pub mod Joining
 pub mod Loans
 pub mod Naming
 pub mod Outputs
+pub mod Fronts
 pub mod Rows
 pub mod Sound

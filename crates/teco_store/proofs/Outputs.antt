@@ -1,52 +1,73 @@
 -- Outputs of which the first bytes are shown, and pages that stand in the input.
-use Rattle.std.proofs.Common.{◌≡◌, ◌∙◌, ap, sym, Result, Ok, Err, OnOk, OnErr, ℕ, ◌+◌, ◌-◌, ◌≤◌, ◌<◌, List, ◌++◌, length, take, drop, slice_range, append_assoc, arith, length-append, length-take, ⊎_elim}
+use Rattle.std.proofs.Common.{◌≡◌, ◌∙◌, ap, ap₂, sym, subst, Result, Ok, Err, OnOk, OnErr, ℕ, ◌+◌, ◌-◌, ◌≤◌, ◌<◌, min, List, [], ◌∷◌, ◌++◌, length, take, drop, slice_range, append_assoc, arith, length-append, ⊎_elim}
+use Rattle.std.specs.List.{All, sum_by}
 use Rattle.std.proofs.lemmas.Bool.{cases_lt}
-use Rattle.std.proofs.lemmas.List.{append-nil, length-take-le, take-append-le, take-take, take_all}
-use Rattle.std.proofs.lemmas.List.{drop-append-le}
+use Rattle.std.proofs.lemmas.List.Elements.{All-nil}
+use Rattle.std.proofs.lemmas.List.{append-nil, drop-append-le, length-take-le, take-append-le, take_all}
 use Rattle.std.proofs.lemmas.Slice.{between_is}
-use Rattle.std.proofs.Math.Seq.{take-append-add, take-add, drop-drop, drop-append_seam}
+use Rattle.std.proofs.Math.Seq.{take-add, take-append-add, drop-append_seam}
+use Rattle.teco_store.specs.Output.{bytes_of, kept, IsCounted, IsCut, IsFront, IsIn, IsMore, IsSame}
+use Rattle.teco_store.specs.Parts.{joined, own_size, size, EndsWithin, IsOrdered}
+use Rattle.teco_store.specs.declared.output.Cut.{Cut}
+use Rattle.teco_store.specs.declared.output.Output.{Output}
+use Rattle.teco_store.specs.declared.parts.Part.{Part}
+use Rattle.teco_store.specs.declared.parts.Part.TheVariants.{Own, Lent}
+use Rattle.teco_store.proofs.Fronts.{joined-append, joined-more, joined-take, length-joined}
 
--- all of the first list is within the first `shown` bytes
-beyond : (own rest : List ℕ) (m shown : ℕ) → length own < shown → shown ≤ length own + m → take shown (own ++ take m rest) ≡ own ++ take (shown - length own) rest
-beyond own rest m shown more within =
-    let up : length own + (shown - length own) ≡ shown = omega arith in
-    ap (λ (k : ℕ). take k (own ++ take m rest)) (sym up) ∙ take-append-add own (take m rest) (shown - length own)
-    ∙ ap (λ (l : List ℕ). own ++ l) (take-take (shown - length own) m rest (omega arith))
+-- All the bytes are counted.
+pub stored_len : (o : Output) (input : List ℕ) → IsIn o input → length (bytes_of o input) ≡ o.len
+stored_len o input inside = let own = inside.0.own in length-joined o.own.items input o.parts.items (omega arith) inside.0.ordered inside.1 ∙ inside.0.len
 
-first_of : (own rest : List ℕ) (m shown : ℕ) → shown ≤ length own + m → take shown own ++ take (shown - length own) rest ≡ take shown (own ++ take m rest)
-first_of own rest m shown within =
-    ⊎_elim
-    (λ (h : length own < shown).
-    ap (λ (l : List ℕ). l ++ take (shown - length own) rest) (take_all shown own (omega arith)) ∙ sym (beyond own rest m shown h within))
-    (λ (h : shown ≤ length own).
-    let none : shown - length own ≡ 0 = omega arith in
-    ap (λ (k : ℕ). take shown own ++ take k rest) none ∙ append-nil (take shown own) ∙ sym (take-append-le shown own (take m rest) h))
-    (cases_lt (length own) shown)
+-- Nothing lies in any input.
+pub nothing_in : (o : Output) (input : List ℕ) → o.own.items ≡ [] → o.parts.items ≡ [] → o.len ≡ 0 → IsIn o input
+nothing_in o input own parts len = (
+  record {
+    ordered = subst (All IsOrdered) (sym parts) (All-nil IsOrdered);
+    own = ap (sum_by own_size) parts ∙ sym (ap length own);
+    len = ap (sum_by size) parts ∙ sym len;
+  },
+  subst (All (EndsWithin (length input))) (sym parts) (All-nil (EndsWithin (length input))),
+)
 
-module _ (own input : List ℕ) (from upto : ℕ) where
-  pub stored_len : length (own ++ slice_range input from upto) ≤ length own + (upto - from)
-  stored_len = omega (arith, length-append own (slice_range input from upto), length-take (upto - from) (drop from input))
+module _ (o new : Output) (same : IsSame o new) where
+  pub counted_same : IsCounted o → IsCounted new
+  counted_same counted = record {
+    ordered = subst (All IsOrdered) (sym same.parts) counted.ordered;
+    own = ap (sum_by own_size) same.parts ∙ counted.own ∙ sym (ap length same.own);
+    len = ap (sum_by size) same.parts ∙ counted.len ∙ sym same.len;
+  }
 
-  pub shown_is : (shown : ℕ) → shown ≤ length own + (upto - from) → take shown own ++ slice_range input from (from + (shown - length own)) ≡ take shown (own ++ slice_range input from upto)
-  shown_is shown within =
-      let n = shown - length own in
-      let long : from + n - from ≡ n = omega arith in
-      ap (λ (k : ℕ). take shown own ++ take k (drop from input)) long ∙ first_of own (drop from input) (upto - from) shown within
+  pub in_same : (input : List ℕ) → IsIn o input → IsIn new input
+  in_same input inside = (counted_same inside.0, subst (All (EndsWithin (length input))) (sym same.parts) inside.1)
 
-  -- The part goes on after what is shown of it, or it begins anew where none of it is shown.
-  pub goes_on : (shown at end : ℕ) → length own < shown → shown ≤ length own + (upto - from) → from + (shown - length own) ≡ at → at ≤ end
-      → own ++ slice_range input from end ≡ take shown (own ++ slice_range input from upto) ++ slice_range input at end
-  goes_on shown at end more within place order =
-      let n = shown - length own in
-      let rest = drop from input in
-      let long : end - from ≡ n + (end - at) = omega arith in
-      let next : drop n rest ≡ drop at input = drop-drop n from input ∙ ap (λ (k : ℕ). drop k input) place in
-      ap (λ (k : ℕ). own ++ take k rest) long ∙ ap (λ (l : List ℕ). own ++ l) (take-add n (end - at) rest ∙ ap (λ (l : List ℕ). take n rest ++ take (end - at) l) next)
-      ∙ sym (append_assoc own (take n rest) (slice_range input at end))
-      ∙ ap (λ (l : List ℕ). l ++ slice_range input at end) (sym (beyond own rest (upto - from) shown more within))
+  pub bytes_same : (input : List ℕ) → bytes_of new input ≡ bytes_of o input
+  bytes_same input = ap₂ (λ (own : List ℕ) (ps : List Part). joined own input ps) same.own same.parts
 
-  pub begins : (shown at end : ℕ) → shown ≤ length own → take shown own ++ slice_range input at end ≡ take shown (own ++ slice_range input from upto) ++ slice_range input at end
-  begins shown at end few = ap (λ (l : List ℕ). l ++ slice_range input at end) (sym (take-append-le shown own (slice_range input from upto) few))
+  pub cut_same : (shown : ℕ) (cut : Cut) → IsCut o shown cut → IsCut new shown cut
+  cut_same shown cut is = record {
+    parts = rw same.parts is.parts;
+    own = subst (λ (ps : List Part). sum_by own_size (kept ps cut) ≡ cut.own) (sym same.parts) is.own;
+    front = subst (λ (ps : List Part). IsFront shown ps (kept ps cut)) (sym same.parts) is.front;
+  }
+
+-- The front of so many bytes is left, with the own bytes that it takes.
+pub kept_bytes : (own input : List ℕ) (ps qs : List Part) (shown n : ℕ) → sum_by own_size ps ≡ length own → IsFront shown ps qs → sum_by own_size qs ≡ n
+    → All (EndsWithin (length input)) ps → joined (take n own) input qs ≡ take shown (joined own input ps)
+kept_bytes own input ps qs shown n all front own_is ends = joined-take own input qs n (omega arith) ∙ front.bytes own input (omega arith) ends
+
+-- Own bytes are put at the end, as one more part.
+pub put_bytes : (own more input : List ℕ) (ps qs : List Part) (n : ℕ) → sum_by own_size ps ≡ length own → n ≡ length more → IsMore ps (Own n) qs
+    → joined (own ++ more) input qs ≡ joined own input ps ++ more
+put_bytes own more input ps qs n all long adds =
+    let last : take n (drop (sum_by own_size ps) (own ++ more)) ≡ more =
+    ap (λ (k : ℕ). take n (drop k (own ++ more))) all ∙ ap (λ (l : List ℕ). take n l) (drop-append_seam own more) ∙ take_all n more (omega arith) in
+    adds.bytes (own ++ more) input ∙ joined-append (own ++ more) input ps (Own n ∷ [])
+    ∙ ap₂ ◌++◌ (joined-more own more input ps (omega arith)) (append-nil (take n (drop (sum_by own_size ps) (own ++ more))) ∙ last)
+
+-- A part of the input is put there.
+pub lend_bytes : (own input : List ℕ) (ps qs : List Part) (from upto : ℕ) → IsMore ps (Lent from upto) qs → joined own input qs ≡ joined own input ps ++ slice_range input from upto
+lend_bytes own input ps qs from upto adds =
+    adds.bytes own input ∙ joined-append own input ps (Lent from upto ∷ []) ∙ ap (λ (l : List ℕ). joined own input ps ++ l) (append-nil (slice_range input from upto))
 
 -- What is shown is still there after other bytes are stored behind it.
 pub still_there : (old new more : List ℕ) (shown : ℕ) → shown ≤ length old → new ≡ take shown old ++ more → shown ≤ length new
@@ -76,3 +97,18 @@ shows (Ok u) old new more shown within ok err =
       still_there old new more shown within ok,
     )
 shows (Err e) old new more shown within ok err = (ap (take shown) err, rw err within)
+
+-- The first bytes of two lists are those of the first list, and then those of the other.
+pub first_taken : (xs ys : List ℕ) (n m : ℕ) → m ≡ min (length xs) n → take n (xs ++ ys) ≡ take m xs ++ take (n - length (take m xs)) ys
+first_taken xs ys n m is =
+    ⊎_elim
+    (λ (h : length xs < n).
+    let all : take m xs ≡ xs = take_all m xs (omega arith) in
+    let up : n ≡ length xs + (n - length xs) = omega arith in
+    ap (λ (k : ℕ). take k (xs ++ ys)) up ∙ take-append-add xs ys (n - length xs) ∙ ap (λ (l : List ℕ). l ++ take (n - length l) ys) (sym all))
+    (λ (h : n ≤ length xs).
+    let same : m ≡ n = omega arith in
+    let long : length (take m xs) ≡ m = length-take-le m xs (omega arith) in
+    let none : n - length (take m xs) ≡ 0 = omega arith in
+    take-append-le n xs ys h ∙ sym (append-nil (take n xs)) ∙ ap₂ (λ (k j : ℕ). take k xs ++ take j ys) (sym same) (sym none))
+    (cases_lt (length xs) n)

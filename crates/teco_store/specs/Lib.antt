@@ -4,9 +4,11 @@ pub mod Output
 pub mod Page
 pub mod PageLaws
 pub mod PageSpan
+pub mod Parts
 pub mod Refused
 pub mod Search
 pub mod ShortText
+pub mod Slices
 pub mod State
 pub mod Trail
 pub mod Turn

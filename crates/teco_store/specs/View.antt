@@ -25,7 +25,7 @@ body_in e = record {
 abbrev pub full_in : Inside → Full
 full_in e = record { body = body_in e; stored = bytes_of e.output e.input.items; room = e.text.cap }
 
--- Its body is sound, and the part of the output that is not copied lies in the input.
+-- Its body is sound, and the parts of the output that are not copied lie in the input.
 abbrev pub IsEditor : Inside → Type 0
 IsEditor e = IsSound e.text.cap (length (bytes_of e.output e.input.items)) (body_in e)
     × IsIn e.output e.input.items

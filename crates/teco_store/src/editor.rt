@@ -10,6 +10,7 @@ use crate::desk::{Desk, Refused};
 use crate::noting::is_long;
 use crate::output::Output;
 use crate::pages::{is_past, replace_text};
+use crate::slices::Slices;
 use std::marker::Model;
 use teco_core::{CaseMode, FILE_LIMIT, NoMemory, PushList, Reg, Registers, TEXT_LIMIT};
 use teco_gap::GapBuffer;
@@ -137,8 +138,8 @@ impl Desk for Editor {
         self.place == self.input.len()
     }
 
-    fn output(&self) -> (&[u8], &[u8]) {
-        self.output.parts(&self.input, self.shown)
+    fn output(&self) -> Slices<'_> {
+        self.output.slices(&self.input, self.shown)
     }
 
     fn flag(&self) -> bool {

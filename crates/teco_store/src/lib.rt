@@ -10,7 +10,9 @@ mod laws;
 mod noting;
 mod output;
 mod pages;
+mod parts;
 mod short_text;
+mod slices;
 
 pub use change::Change;
 pub use change_kind::ChangeKind;
@@ -20,3 +22,4 @@ pub use laws::{change_laws, editor_laws, page_laws};
 pub use noting::is_long;
 pub use pages::{PageSpan, is_past, part};
 pub use short_text::{SHORT_LIMIT, ShortText};
+pub use slices::Slices;

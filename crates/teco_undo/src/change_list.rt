@@ -154,8 +154,23 @@ impl ChangeList {
             let step = step as u32;
             self.slots.push_reserved(Slot { step, value });
         } else {
-            self.push_apart(step, PartChange::new(PartValue::Small(small)));
+            self.push_late(step, small);
         }
+    }
+
+    /// Notes a change of a kind that has slots after 2^32 steps, at places that were found: it is held apart. Takes no memory.
+    #[cold]
+    #[inline(never)]
+    fn push_late(&mut self, step: u64, small: SmallChange)
+        requires spare { 0 < self.old.spare }
+        requires apart { 0 < self.old.apart }
+        requires fits { FitsSlot small }
+        ensures items { self.new.items
+            ≡ self.old.items ++ record { step = step; turn = small_turn small } ∷ [] }
+        ensures spare { self.new.spare + 1 ≡ self.old.spare }
+        ensures apart { self.new.apart + 1 ≡ self.old.apart }
+    {
+        self.push_apart(step, PartChange::new(PartValue::Small(small)));
     }
 
     /// Notes a change that is held apart, at places that were found. Takes no memory.

@@ -42,7 +42,6 @@ impl Model for Recorder {
 }
 
 // How many places so many changes take among those that are held apart, which are all of them from 2^32 steps on.
-#[inline(always)]
 fn places_apart(done: u64, changes: usize, apart: usize) -> usize
     ensures enough { apart ≤ result }
     ensures late { 2 ^ 32 ≤ done → changes ≤ result }
@@ -116,6 +115,25 @@ impl Recorder {
     // Finds room for so many more changes, and for so many of them that are held apart.
     #[inline(always)]
     fn reserve(&mut self, changes: usize, apart: usize) -> Result<(), NoMemory>
+        ensures full { self.new.full ≡ self.old.full }
+        ensures sound { IsSound self.new.full.room (length self.new.full.stored) self.new.full.body }
+        ensures spare { OnOk result (changes ≤ self.new.spare) }
+        ensures apart { OnOk result (apart ≤ self.new.apart) }
+        ensures with_room { changes ≤ self.old.spare → apart ≤ self.old.apart → IsOk result }
+        ensures keeps { StillFollows self.old self.new }
+    {
+        // This shows that what the editor holds is within its limits.
+        let _shown = self.editor.shown();
+        if self.done >= 4_294_967_296 {
+            return self.reserve_late(changes, apart);
+        }
+        self.entry.reserve(changes, apart)
+    }
+
+    // The same after 2^32 steps, when all are held apart.
+    #[cold]
+    #[inline(never)]
+    fn reserve_late(&mut self, changes: usize, apart: usize) -> Result<(), NoMemory>
         ensures full { self.new.full ≡ self.old.full }
         ensures sound { IsSound self.new.full.room (length self.new.full.stored) self.new.full.body }
         ensures spare { OnOk result (changes ≤ self.new.spare) }

@@ -63,7 +63,7 @@ fn pointer_in(low: u16, word: u32) -> u32
 
 impl SlotValue {
     /// The value of a change that has a slot.
-    #[inline(always)]
+    #[inline]
     pub(crate) fn of(small: SmallChange) -> SlotValue
         requires { FitsSlot small }
         ensures { (step : ℕ) → slot_value step result ≡ small }

@@ -14,7 +14,7 @@ use crate::recorder::Recorder;
 use crate::recorder::texts::count_of;
 use teco_core::{CaseMode, PushList, Reg, Registers, TEXT_LIMIT};
 use teco_store::change::{PartValue, SmallChange};
-use teco_store::{Desk, Refused, is_long, is_past};
+use teco_store::{Desk, Refused, Slices, is_long, is_past};
 
 impl Recorder {
     // Finds room for one change whose value lies in it, and makes it.
@@ -92,7 +92,7 @@ impl Desk for Recorder {
         self.editor.is_input_over()
     }
 
-    fn output(&self) -> (&[u8], &[u8]) {
+    fn output(&self) -> Slices<'_> {
         self.editor.output()
     }
 

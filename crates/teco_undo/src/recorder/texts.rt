@@ -6,6 +6,7 @@ ghost use Rattle.teco_store.specs.State.{IsSound};
 
 use crate::recorder::Recorder;
 use teco_core::TEXT_LIMIT;
+use teco_store::Desk;
 use teco_store::change::{PartValue, SmallChange};
 
 // How many changes of a text that is noted are held apart.
@@ -19,7 +20,7 @@ pub(super) fn count_of(text: &Option<Vec<u8>>) -> usize
 }
 
 impl Recorder {
-    // Makes a text the last search text, and notes the one that was; none leaves it. What the search came to is noted too.
+    // Makes a text the last search text, and notes the one that was; none leaves it. What the search came to is noted too, where that changes.
     pub(super) fn note_result(&mut self, text: Option<Vec<u8>>, found: bool)
         requires spare { 2 ≤ self.old.spare }
         requires apart { length (option_to_list text) ≤ self.old.apart }
@@ -43,6 +44,8 @@ impl Recorder {
         if let Some(text) = text {
             self.note_apart(PartValue::Search(Some(text)));
         }
-        self.note(SmallChange::Found(found));
+        if found != self.editor.last_result() {
+            self.note(SmallChange::Found(found));
+        }
     }
 }

@@ -5,6 +5,7 @@ use Rattle.teco_core.specs.Number.{IsNumber}
 use Rattle.teco_core.specs.Register.{Content, blank}
 use Rattle.teco_core.specs.declared.limits.TheConstants.{TEXT_LIMIT}
 use Rattle.teco_store.specs.State.{AreNumbers, AreSmall}
+use Rattle.teco_store.proofs.Outputs.{nothing_in}
 use Rattle.teco_store.proofs.editor.Editor.with_page_lines.Goals as goal
 
 blank_fits : IsNumber blank.number
@@ -28,5 +29,5 @@ invariant_of-result c = (
     output = search rules;
     last_search = search rules;
   },
-  (search rules, search rules),
+  nothing_in c.new-4.result c.args.input.items c.new-4.ensures.own c.new-4.ensures.parts c.new-4.ensures.len,
 )
