@@ -14,7 +14,7 @@ use teco_core::ESC;
 use teco_io::Terminal;
 use teco_scan::{
     Form, Found, bare_token, digits_token, end_found, escape_token, filler_end, lead, mark_token,
-    register_token, tag_token, test_token, text_token, token_at,
+    register_token, replace_token, tag_token, test_token, text_token, token_at,
 };
 use teco_store::Desk;
 
@@ -81,6 +81,7 @@ pub(crate) fn step<D: Desk, S: Stop, T: Terminal, W: Watch>(
         b'B' => step_apart::<D, S, T, W, b'B'>(desk, cursor, from, steps, stop, term),
         b'H' => step_apart::<D, S, T, W, b'H'>(desk, cursor, from, steps, stop, term),
         b'T' => step_apart::<D, S, T, W, b'T'>(desk, cursor, from, steps, stop, term),
+        b'F' => step_replace::<D, S, T, W>(desk, cursor, from, steps, stop, term),
         b'|' => step_led::<D, S, T, W, b'|'>(desk, cursor, from, steps, stop, term),
         b'\'' => step_led::<D, S, T, W, b'\''>(desk, cursor, from, steps, stop, term),
         ESC => step_led::<D, S, T, W, ESC>(desk, cursor, from, steps, stop, term),
@@ -146,6 +147,24 @@ fn step_apart<D: Desk, S: Stop, T: Terminal, W: Watch, const BYTE: u8>(
         (desk.old, term.old, steps.old) (desk.new, term.new, steps.new) cursor.old cursor.new result }
 {
     step_led::<D, S, T, W, BYTE>(desk, cursor, from, steps, stop, term)
+}
+
+/// Does the step of a replacement that begins at a place, out of line.
+#[inline(never)]
+fn step_replace<D: Desk, S: Stop, T: Terminal, W: Watch>(
+    desk: &mut D,
+    cursor: &mut Cursor,
+    from: usize,
+    steps: &mut Steps,
+    stop: &mut S,
+    term: &mut T,
+) -> Flow
+    requires { Begins cursor.old.text.now cursor.old.at from }
+    ensures { StepsText D.Desk T.Terminal (S.answered stop.old) (S.answered stop.new)
+        (desk.old, term.old, steps.old) (desk.new, term.new, steps.new) cursor.old cursor.new result }
+{
+    let known = replace_token(cursor.text, cursor.at, from);
+    step_known(desk, cursor, known, steps, stop, term)
 }
 
 /// Passes a tag that begins at a place, and the tags that come after it.

@@ -62,14 +62,18 @@ impl Search {
 #[derive(Drop)]
 pub(crate) struct Remembered<'t> {
     text: &'t [u8],
-    /// By the place of each, modulo [`SKIPS`].
     skips: [Option<Skip>; SKIPS],
-    /// By the place of the name and the depth, modulo [`SEARCHES`].
     searches: [Option<Search>; SEARCHES],
     /// How many bytes searches have walked, at most.
     walked: usize,
     /// The tags of the lists that were searched since that was much.
     tags: Tags<'t>,
+    /// Where to look first: by the place in the text, modulo [`SKIPS`], which of the skips was the latest there.
+    likely_skips: [u8; SKIPS],
+    /// Which skip, modulo [`SKIPS`], is the oldest, whose room the next one takes.
+    oldest_skip: u8,
+    /// Which search, modulo [`SEARCHES`], is the oldest, whose room the next one takes.
+    oldest_search: u8,
 }
 
 impl<'t> Model for Remembered<'t> {
@@ -99,10 +103,13 @@ impl<'t> Remembered<'t> {
             searches: [None; SEARCHES],
             walked: 0,
             tags: Tags::new(text, memory),
+            likely_skips: [0; SKIPS],
+            oldest_skip: 0,
+            oldest_search: 0,
         }
     }
 
-    /// What [`skip_block`] gives of the text. It is found at once where it was the latest of its place.
+    /// What [`skip_block`] gives of the text. It is found at once where it is one of the latest.
     pub fn skip(&mut self, at: usize, kind: Kind, depth: usize) -> Result<SkipEnd, Code>
         requires inside { at ≤ length self.old }
         requires few { depth ≤ BLOCK_LIMIT }
@@ -112,9 +119,10 @@ impl<'t> Remembered<'t> {
         ensures divided { IfOk result (λ stop. stop.divided ≡ true → kind ≡ Then) }
         ensures fault { IfErr result (λ code. is_fault code ≡ true) }
     {
-        match self.skipped(at, kind, depth) {
+        let likely = usize::from(self.likely_skips[at % SKIPS]) % SKIPS;
+        match self.skipped(likely, at, kind, depth) {
             Some(stop) => Ok(stop),
-            None => self.skip_anew(at, kind, depth),
+            None => self.skip_apart(at, kind, depth),
         }
     }
 
@@ -136,7 +144,7 @@ impl<'t> Remembered<'t> {
         Ok(stop.to)
     }
 
-    /// What [`find_tag`] gives of the text, for a name that lies in it. It is found at once where it was the latest of its place.
+    /// What [`find_tag`] gives of the text, for a name that lies in it. It is found at once where it is one of the latest.
     pub fn tag(&mut self, start: usize, depth: usize, name: Span) -> Option<usize>
         requires inside { start ≤ length self.old }
         requires few { depth ≤ BLOCK_LIMIT }
@@ -151,15 +159,16 @@ impl<'t> Remembered<'t> {
         }
     }
 
-    /// Where this skip stopped, if it is remembered.
+    /// Where this skip stopped, if it is the one of this number.
     #[inline(always)]
-    fn skipped(&self, at: usize, kind: Kind, depth: usize) -> Option<SkipEnd>
+    fn skipped(&self, number: usize, at: usize, kind: Kind, depth: usize) -> Option<SkipEnd>
+        requires { number < SKIPS }
         ensures closes { IfSome result (λ stop.
             closed stop.divided (drop stop.to self.now) ≡ (list_at (Some kind) depth (drop at self.now)).1) }
         ensures within { IfSome result (λ stop. stop.to ≤ length self.now) }
         ensures divided { IfSome result (λ stop. stop.divided ≡ true → kind ≡ Then) }
     {
-        let skip = self.skips[at % SKIPS]?;
+        let skip = self.skips[number]?;
         if skip.at as usize == at && skip.depth as usize == depth && skip.kind == kind {
             return Some(SkipEnd {
                 to: skip.to as usize,
@@ -169,8 +178,39 @@ impl<'t> Remembered<'t> {
         None
     }
 
-    /// Skips in the text, and remembers it.
+    /// Where this skip stopped, if it is remembered.
+    fn skipped_before(&self, at: usize, kind: Kind, depth: usize) -> Option<SkipEnd>
+        ensures closes { IfSome result (λ stop.
+            closed stop.divided (drop stop.to self.now) ≡ (list_at (Some kind) depth (drop at self.now)).1) }
+        ensures within { IfSome result (λ stop. stop.to ≤ length self.now) }
+        ensures divided { IfSome result (λ stop. stop.divided ≡ true → kind ≡ Then) }
+    {
+        for number in 0..SKIPS {
+            if let Some(stop) = self.skipped(number, at, kind, depth) {
+                return Some(stop);
+            }
+        }
+        None
+    }
+
+    /// Does what [`Remembered::skip`] does, out of line: looks at each skip that is remembered, and else skips in the text.
     #[inline(never)]
+    fn skip_apart(&mut self, at: usize, kind: Kind, depth: usize) -> Result<SkipEnd, Code>
+        requires inside { at ≤ length self.old }
+        requires few { depth ≤ BLOCK_LIMIT }
+        ensures text { self.new ≡ self.old }
+        ensures closes { close_of self.old result ≡ (list_at (Some kind) depth (drop at self.old)).1 }
+        ensures within { IfOk result (λ stop. stop.to ≤ length self.old) }
+        ensures divided { IfOk result (λ stop. stop.divided ≡ true → kind ≡ Then) }
+        ensures fault { IfErr result (λ code. is_fault code ≡ true) }
+    {
+        match self.skipped_before(at, kind, depth) {
+            Some(stop) => Ok(stop),
+            None => self.skip_anew(at, kind, depth),
+        }
+    }
+
+    /// Skips in the text, and remembers it.
     fn skip_anew(&mut self, at: usize, kind: Kind, depth: usize) -> Result<SkipEnd, Code>
         requires inside { at ≤ length self.old }
         requires few { depth ≤ BLOCK_LIMIT }
@@ -182,31 +222,36 @@ impl<'t> Remembered<'t> {
     {
         let stop = skip_block(self.text, at, kind, depth)?;
         if self.text.len() <= u32::MAX as usize {
-            self.skips[at % SKIPS] = Some(Skip {
+            let oldest = usize::from(self.oldest_skip) % SKIPS;
+            self.skips[oldest] = Some(Skip {
                 at: at as u32,
                 to: stop.to as u32,
                 depth: depth as u8,
                 kind,
                 divided: stop.divided,
             });
+            self.likely_skips[at % SKIPS] = oldest as u8;
+            self.oldest_skip = oldest as u8 + 1;
         }
         Ok(stop)
     }
 
-    /// This search, if it is remembered.
+    /// This search, if it is remembered. What comes after the first free room is free too.
     #[inline(always)]
     fn searched(&self, start: usize, depth: usize, name: Span) -> Option<Search>
         ensures is { IfSome result (λ search. IsSearchOf self.now search) }
         ensures asked { IfSome result (λ search. (search.start ≡ start) × (search.depth ≡ depth)) }
         ensures named { IfSome result (λ search. (search.from ≡ name.from) × (search.to ≡ name.to)) }
     {
-        let search = self.searches[search_place(depth, name)]?;
-        if search.start as usize == start
-            && search.depth as usize == depth
-            && search.from as usize == name.from
-            && search.to as usize == name.to
-        {
-            return Some(search);
+        for number in 0..SEARCHES {
+            let search = self.searches[number]?;
+            if search.start as usize == start
+                && search.depth as usize == depth
+                && search.from as usize == name.from
+                && search.to as usize == name.to
+            {
+                return Some(search);
+            }
         }
         None
     }
@@ -224,7 +269,8 @@ impl<'t> Remembered<'t> {
         let text = self.text;
         let found = self.search_text(start, depth, &text[name.from..name.to]);
         if text.len() <= u32::MAX as usize {
-            self.searches[search_place(depth, name)] = Some(Search {
+            let oldest = usize::from(self.oldest_search) % SEARCHES;
+            self.searches[oldest] = Some(Search {
                 start: start as u32,
                 depth: depth as u8,
                 from: name.from as u32,
@@ -234,6 +280,7 @@ impl<'t> Remembered<'t> {
                     None => None,
                 },
             });
+            self.oldest_search = oldest as u8 + 1;
         }
         found
     }
@@ -258,12 +305,4 @@ impl<'t> Remembered<'t> {
         }
         self.tags.find(start, depth, name)
     }
-}
-
-/// The place of a search among those that are remembered.
-#[inline(always)]
-fn search_place(depth: usize, name: Span) -> usize
-    ensures { result < SEARCHES }
-{
-    (name.from ^ depth) % SEARCHES
 }

@@ -1,8 +1,10 @@
 -- The places of line ends, seen as a walk finds them: one after another from a place on, or one before another back from it.
-use Rattle.std.proofs.Common.{◌≡◌, ◌∙◌, ap, sym, refl, ℕ, zero, suc, ◌+◌, ◌-◌, ◌<◌, ◌≤◌, Bool, true, false, cond, List, [], ◌∷◌, ◌++◌, length, get_or, take, drop, reverse, filter, slice_get, ℤ, pos, negsuc, nat_abs, nat_le, nat_lt, int_lt, arith, rules, tests, add-zero, add-one, drop-cons}
+use Rattle.std.proofs.Common.{◌≡◌, ◌∙◌, ap, sym, refl, ℕ, zero, suc, ◌+◌, ◌-◌, ◌<◌, ◌≤◌, Bool, true, false, cond, Some, None, List, [], ◌∷◌, ◌++◌, length, get_or, take, drop, reverse, filter, slice_get, ℤ, pos, negsuc, nat_abs, nat_le, nat_lt, int_lt, arith, rules, tests, add-zero, add-one, drop-cons}
 use Rattle.std.proofs.lemmas.List.{append-nil, length-take-le, reverse-append, take-append-drop, take_more}
 use Rattle.std.proofs.Math.ListN.{drop_of_length-le}
 use Rattle.std.proofs.lemmas.List.Elements.{filter-append}
+use Rattle.std.proofs.lemmas.Bool.{false_from_ne_true}
+use Rattle.memchr.specs.Find.{IsFirst, IsLast, Nowhere, Passes}
 use Rattle.teco_core.specs.Ascii.{is_line_end}
 use Rattle.teco_step.specs.Line.{line_ends_from, line_ends, one_past, line}
 
@@ -70,11 +72,12 @@ line_not_above text from (pos zero) within below = ap (λ l. one_past (slice_get
 line_not_above text from (pos (suc n)) within below = let above : nat_lt 0 (suc n) ≡ true = search (rules, tests) in cc
 line_not_above text from (negsuc n) within below = ap (λ l. one_past (slice_get (reverse l) (suc n)) 0) (ends_back text from within)
 
--- one byte of the walk
-get_next : (p : ℕ) (l : List ℕ) (k : ℕ) → 0 < k → slice_get (p ∷ l) k ≡ slice_get l (k - 1)
+-- one line end passed over
+pub get_next : (p : ℕ) (l : List ℕ) (k : ℕ) → 0 < k → slice_get (p ∷ l) k ≡ slice_get l (k - 1)
 get_next p l zero above = absurd (omega arith)
 get_next p l (suc k) above = let e : suc k - 1 ≡ k = omega arith in rw e refl
 
+-- one byte of the walk
 ahead_more : (text : List ℕ) (p : ℕ) → p < length text → line_ends_from p (drop p text) ≡ cond (is_line_end (get_or text p 0)) (p ∷ line_ends_from (p + 1) (drop (p + 1) text)) (line_ends_from (p + 1) (drop (p + 1) text))
 unfolding line_ends_from
 ahead_more text p below = rw (add-one, drop-cons text p 0) refl
@@ -90,28 +93,44 @@ back_more text p below =
     ap reverse whole ∙ reverse-append (line_ends_from 0 xs) (line_ends_from p (b ∷ []))
     ∙ elim (is_line_end b) as (λ v. reverse (cond v (p ∷ []) []) ++ reverse (line_ends_from 0 xs) ≡ cond v (p ∷ reverse (line_ends_from 0 xs)) (reverse (line_ends_from 0 xs))) [ true ↦ refl | false ↦ refl ]
 
-pub ahead_found : (text : List ℕ) (p n : ℕ) → p < length text → is_line_end (get_or text p 0) ≡ true → one_past (slice_get (line_ends_from p (drop p text)) 0) n ≡ p + 1
-ahead_found text p n below is = rw (ahead_more text p below, is) refl
+-- bytes that end no line
+ahead_past : (text : List ℕ) (n p : ℕ) → p + n ≤ length text → Nowhere (Passes is_line_end text) p (p + n) → line_ends_from p (drop p text) ≡ line_ends_from (p + n) (drop (p + n) text)
+ahead_past text zero p within none = rw add-zero refl
+ahead_past text (suc n) p within none =
+    let plain : is_line_end (get_or text p 0) ≡ false = false_from_ne_true (is_line_end (get_or text p 0)) (none p (omega arith) (omega arith)) in
+    let next : p + 1 + n ≡ p + suc n = omega arith in
+    rw (ahead_more text p (omega arith), plain) (ahead_past text n (p + 1) (omega arith) (λ k low high. none k (omega arith) (omega arith)) ∙ ap (λ q. line_ends_from q (drop q text)) next)
 
-pub ahead_passed : (text : List ℕ) (p k : ℕ) → p < length text → is_line_end (get_or text p 0) ≡ true → 0 < k → slice_get (line_ends_from (p + 1) (drop (p + 1) text)) (k - 1) ≡ slice_get (line_ends_from p (drop p text)) k
-ahead_passed text p k below is above = sym (rw (ahead_more text p below, is) (get_next p (line_ends_from (p + 1) (drop (p + 1) text)) k above))
+back_past : (text : List ℕ) (n p : ℕ) → p + n ≤ length text → Nowhere (Passes is_line_end text) p (p + n) → reverse (line_ends_from 0 (take (p + n) text)) ≡ reverse (line_ends_from 0 (take p text))
+back_past text zero p within none = rw add-zero refl
+back_past text (suc n) p within none =
+    let plain : is_line_end (get_or text p 0) ≡ false = false_from_ne_true (is_line_end (get_or text p 0)) (none p (omega arith) (omega arith)) in
+    let next : p + suc n ≡ p + 1 + n = omega arith in
+    ap (λ q. reverse (line_ends_from 0 (take q text))) next ∙ back_past text n (p + 1) (omega arith) (λ k low high. none k (omega arith) (omega arith)) ∙ rw (back_more text p (omega arith), plain) refl
 
-pub ahead_plain : (text : List ℕ) (p k : ℕ) → p < length text → is_line_end (get_or text p 0) ≡ false → slice_get (line_ends_from (p + 1) (drop (p + 1) text)) k ≡ slice_get (line_ends_from p (drop p text)) k
-ahead_plain text p k below is = sym (rw (ahead_more text p below, is) refl)
-
-pub ahead_end : (text : List ℕ) (p k n : ℕ) → length text ≤ p → one_past (slice_get (line_ends_from p (drop p text)) k) n ≡ n
+-- the first line end from a place on, and what comes after it
+pub ahead_none : (text : List ℕ) (p : ℕ) → p ≤ length text → IsFirst (Passes is_line_end text) p (length text) None → line_ends_from p (drop p text) ≡ []
 unfolding line_ends_from
-ahead_end text p k n past = rw (drop_of_length-le text past) refl
+ahead_none text p within none =
+    let whole : p + (length text - p) ≡ length text = omega arith in
+    let past : length text ≤ length text = omega arith in
+    ahead_past text (length text - p) p (omega arith) (λ k low high. none k low (omega arith)) ∙ rw (whole, drop_of_length-le text past) refl
 
-pub back_found : (text : List ℕ) (p n : ℕ) → p < length text → is_line_end (get_or text p 0) ≡ true → one_past (slice_get (reverse (line_ends_from 0 (take (p + 1) text))) 0) n ≡ p + 1
-back_found text p n below is = rw (back_more text p below, is) refl
+pub ahead_first : (text : List ℕ) (p e : ℕ) → IsFirst (Passes is_line_end text) p (length text) (Some e) → line_ends_from p (drop p text) ≡ e ∷ line_ends_from (e + 1) (drop (e + 1) text)
+ahead_first text p e found =
+    let place : p + (e - p) ≡ e = omega (arith, found.0.low) in
+    let below : e < length text = found.0.high in
+    ahead_past text (e - p) p (omega arith) (λ k low high. found.0.before k low (omega arith)) ∙ rw (place, ahead_more text e below, found.1) refl
 
-pub back_passed : (text : List ℕ) (p k : ℕ) → p < length text → is_line_end (get_or text p 0) ≡ true → 0 < k → slice_get (reverse (line_ends_from 0 (take p text))) (k - 1) ≡ slice_get (reverse (line_ends_from 0 (take (p + 1) text))) k
-back_passed text p k below is above = sym (rw (back_more text p below, is) (get_next p (reverse (line_ends_from 0 (take p text))) k above))
-
-pub back_plain : (text : List ℕ) (p k : ℕ) → p < length text → is_line_end (get_or text p 0) ≡ false → slice_get (reverse (line_ends_from 0 (take p text))) k ≡ slice_get (reverse (line_ends_from 0 (take (p + 1) text))) k
-back_plain text p k below is = sym (rw (back_more text p below, is) refl)
-
-pub back_end : (text : List ℕ) (k n : ℕ) → one_past (slice_get (reverse (line_ends_from 0 (take 0 text))) k) n ≡ n
+-- the last line end before a place, and what comes before it
+pub back_none : (text : List ℕ) (p : ℕ) → p ≤ length text → IsLast (Passes is_line_end text) 0 p None → reverse (line_ends_from 0 (take p text)) ≡ []
 unfolding line_ends_from
-back_end text k n = refl
+back_none text p within none =
+    let whole : p ≡ 0 + p = omega arith in
+    ap (λ q. reverse (line_ends_from 0 (take q text))) whole ∙ back_past text p 0 (omega arith) (λ k low high. none k low (omega arith))
+
+pub back_last : (text : List ℕ) (p e : ℕ) → p ≤ length text → IsLast (Passes is_line_end text) 0 p (Some e) → reverse (line_ends_from 0 (take p text)) ≡ e ∷ reverse (line_ends_from 0 (take e text))
+back_last text p e within found =
+    let place : e + 1 + (p - (e + 1)) ≡ p = omega (arith, found.0.high) in
+    let below : e < length text = omega (arith, found.0.high) in
+    ap (λ q. reverse (line_ends_from 0 (take q text))) (sym place) ∙ back_past text (p - (e + 1)) (e + 1) (omega arith) (λ k low high. found.0.after k low (omega arith)) ∙ rw (back_more text e below, found.1) refl

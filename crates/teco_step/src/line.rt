@@ -2,7 +2,7 @@
 ghost use Rattle.std.specs.Prelude.{◌≡◌, ◌<◌, ◌≤◌, ◌++◌, length, drop, take, reverse, slice_get, slice_index};
 ghost use Rattle.teco_step.specs.Line.{one_past, line, line_ends_from};
 
-use teco_core::is_line_end;
+use teco_search::{first_line_end, last_line_end};
 
 /// The byte at a place of a text in two halves.
 pub(crate) fn byte_at(before: &[u8], after: &[u8], place: usize) -> u8
@@ -22,17 +22,16 @@ fn line_ahead(before: &[u8], after: &[u8], from: usize, skip: u32) -> usize
         result ≡ one_past (slice_get (line_ends_from from (drop from text)) skip) (length text) }
     ensures within { result ≤ length (before.now ++ after.now) }
 {
-    let end = before.len() + after.len();
     let mut left = skip;
-    for place in from..end {
-        if is_line_end(byte_at(before, after, place)) {
-            if left == 0 {
-                return place + 1;
-            }
-            left -= 1;
+    let mut place = from;
+    'ends: while let Some(end) = first_line_end((before, after), place) {
+        if left == 0 {
+            return end + 1;
         }
+        left -= 1;
+        place = end + 1;
     }
-    end
+    before.len() + after.len()
 }
 
 /// One past the last line end before a place, after passing over `skip` of them backward; 0 where there are fewer.
@@ -44,14 +43,12 @@ fn line_back(before: &[u8], after: &[u8], from: usize, skip: u32) -> usize
 {
     let mut left = skip;
     let mut place = from;
-    while place > 0 {
-        if is_line_end(byte_at(before, after, place - 1)) {
-            if left == 0 {
-                return place;
-            }
-            left -= 1;
+    'ends: while let Some(end) = last_line_end((before, after), place) {
+        if left == 0 {
+            return end + 1;
         }
-        place -= 1;
+        left -= 1;
+        place = end;
     }
     0
 }

@@ -1,5 +1,5 @@
 //! Searches. One that is not done keeps the arguments and the state; one that fails is done.
-ghost use Rattle.std.specs.Prelude.{◌≡◌, ◌⊎◌, ◌<◌, ◌≤◌, IfErr, IfOk, IfSome, Ok, [], false, if◌then◌else◌, length};
+ghost use Rattle.std.specs.Prelude.{◌≡◌, ◌⊎◌, ◌<◌, ◌≤◌, IfErr, IfOk, IfSome, List, ℕ, Ok, [], false, if◌then◌else◌, length};
 ghost use Rattle.std.specs.Option.{option_copied};
 ghost use Rattle.teco_core.specs.Arguments.{no_arguments};
 ghost use Rattle.teco_core.specs.ArgumentsView.{arguments};
@@ -32,13 +32,13 @@ fn meant<'a, D: Desk>(desk: &'a D, text: &'a [u8]) -> &'a [u8]
     }
 }
 
-/// What a search looks for. No text, and none before it, is [`Code::Iss`]; a text that spells nothing is [`Code::Ice`].
-pub(crate) fn sought<D: Desk>(desk: &D, text: &[u8]) -> Result<Pattern, Failure>
-    ensures ok { IfOk result (λ pattern. searching.sought text.now (D.state desk.now) ≡ Ok pattern) }
-    ensures err { IfErr result (λ failure. IsRefusal failure (searching.sought text.now (D.state desk.now))
-        ⊎ (failure ≡ Memory)) }
+/// What a search looks for that means this text. An empty one is [`Code::Iss`]; one that spells nothing is [`Code::Ice`].
+fn sought_by<D: Desk>(desk: &D, meant: &[u8]) -> Result<Pattern, Failure>
+    ensures ok { IfOk result (λ pattern. (text : List ℕ) → meant.now ≡ searching.text_or_last text (D.state desk.now)
+        → searching.sought text (D.state desk.now) ≡ Ok pattern) }
+    ensures err { IfErr result (λ failure. (text : List ℕ) → meant.now ≡ searching.text_or_last text (D.state desk.now)
+        → IsRefusal failure (searching.sought text (D.state desk.now)) ⊎ (failure ≡ Memory)) }
 {
-    let meant = meant(desk, text);
     if meant.is_empty() {
         return Err(Failure::Command(Code::Iss));
     }
@@ -47,6 +47,15 @@ pub(crate) fn sought<D: Desk>(desk: &D, text: &[u8]) -> Result<Pattern, Failure>
         Err(Code::Mem) => Err(Failure::Memory),
         Err(code) => Err(Failure::Command(code)),
     }
+}
+
+/// What a search looks for. No text, and none before it, is [`Code::Iss`]; a text that spells nothing is [`Code::Ice`].
+pub(crate) fn sought<D: Desk>(desk: &D, text: &[u8]) -> Result<Pattern, Failure>
+    ensures ok { IfOk result (λ pattern. searching.sought text.now (D.state desk.now) ≡ Ok pattern) }
+    ensures err { IfErr result (λ failure. IsRefusal failure (searching.sought text.now (D.state desk.now))
+        ⊎ (failure ≡ Memory)) }
+{
+    sought_by(desk, meant(desk, text))
 }
 
 /// The number that a search takes, which may not be 0.
@@ -74,7 +83,7 @@ fn found<D: Desk>(desk: &D, text: &[u8], args: &Args) -> Result<Option<(usize, u
     if n == 1 && is_plain(meant, desk.case_mode()) {
         return Ok(find_plain(meant, desk.halves(), desk.pointer()));
     }
-    let pattern = sought(desk, text)?;
+    let pattern = sought_by(desk, meant)?;
     Ok(find(&pattern, desk.halves(), desk.pointer(), n))
 }
 

@@ -1,34 +1,26 @@
-use Rattle.std.proofs.Common.{◌≡◌, ◌∙◌, ◌++◌, ◌<◌, ap, arith, false, get_or, length, length-append, slice_get, sym, true}
-use Rattle.teco_core.specs.Ascii.{is_line_end}
-use Rattle.teco_step.specs.Line.{one_past}
-use Rattle.teco_step.proofs.Lines.{ahead_end, ahead_found, ahead_passed, ahead_plain}
+use Rattle.std.proofs.Common.{◌∙◌, ◌++◌, ◌+◌, ap, arith, drop, length, length-append, refl, slice_get, sym}
+use Rattle.teco_step.specs.Line.{one_past, line_ends_from}
+use Rattle.teco_step.proofs.Lines.{ahead_first, ahead_none, get_next}
 use Rattle.teco_step.proofs.line.line_ahead.Goals as goal
-use Rattle.teco_step.proofs.line.line_ahead.Goals.{else-is_line_end, then-is_line_end+else-left-eq0}
 
 pub returns-then-left-eq0-clause-value : goal.returns-then-left-eq0-clause-value
 returns-then-left-eq0-clause-value c =
     let text = c.args.before.now ++ c.args.after.now in
-    let p = c.loop-place.place in
-    let within : p < length text = omega (arith, length-append c.args.before.now c.args.after.now) in
-    let is : is_line_end (get_or text p 0) ≡ true = ap is_line_end (sym c.byte_at.ensures) ∙ sym c.if-is_line_end.ensures in
-    sym (ap (λ place. one_past place (length text)) (sym c.loop-place.invariant ∙ ap (slice_get _) c.if-left-eq0.true) ∙ ahead_found text p (length text) within is)
+    let first = ahead_first text c.ends.place c.in-Some.end c.in-Some.ensures in
+    sym (ap (λ place. one_past place (length text)) (sym c.ends.invariant.same) ∙ rw (c.if-left-eq0.true, first) refl)
 
-pub loop-place-preserved : goal.loop-place-preserved
-loop-place-preserved c =
+pub ends-preserved : goal.ends-preserved
+ends-preserved c =
     let text = c.args.before.now ++ c.args.after.now in
-    let p = c.loop-place.place in
-    let within : p < length text = omega (arith, length-append c.args.before.now c.args.after.now) in
-    elim c.if-is_line_end.branch [
-      | then-is_line_end+else-left-eq0 w ↦
-          let is : is_line_end (get_or text p 0) ≡ true = ap is_line_end (sym c.byte_at.ensures) ∙ sym w.if-is_line_end.ensures in
-          rw w.left-is (ahead_passed text p c.loop-place.left within is (omega arith) ∙ c.loop-place.invariant)
-      | else-is_line_end w ↦
-          let is : is_line_end (get_or text p 0) ≡ false = ap is_line_end (sym c.byte_at.ensures) ∙ sym w.if-is_line_end.ensures in
-          rw w.left-is (ahead_plain text p c.loop-place.left within is ∙ c.loop-place.invariant)
-    ]
+    let first = ahead_first text c.ends.place c.in-Some.end c.in-Some.ensures in
+    let end = c.in-Some.end in
+    record {
+      within = omega (arith, c.in-Some.ensures.0.high);
+      same = sym (get_next end (line_ends_from (end + 1) (drop (end + 1) text)) c.ends.left (omega arith)) ∙ ap (λ ends. slice_get ends c.ends.left) (sym first) ∙ c.ends.invariant.same;
+    }
 
 pub returns-clause-value : goal.returns-clause-value
 returns-clause-value c =
     let text = c.args.before.now ++ c.args.after.now in
-    let long = length-append c.args.before.now c.args.after.now in
-    sym long ∙ sym (ap (λ place. one_past place (length text)) (sym c.loop-place.invariant) ∙ ahead_end text c.loop-place.place c.loop-place.left (length text) (omega (arith, long)))
+    let none = ahead_none text c.ends.place c.ends.invariant.within c.in_default.ensures in
+    sym (length-append c.args.before.now c.args.after.now) ∙ sym (ap (λ place. one_past place (length text)) (sym c.ends.invariant.same) ∙ rw none refl)

@@ -11,7 +11,7 @@ returns-in_err-n-clause-err g c =
 
 pub returns-in_err-pattern-clause-err : goal.returns-in_err-pattern-clause-err
 returns-in_err-pattern-clause-err g c =
-    passes _ _ c.from_residual-in_err-pattern.result c.from_residual-in_err-pattern.ensures.1 (why_after _ _ c.in_ok-n.n _ c.in_ok-n.ensures (why_then _ _ _ c.in_err-pattern.ensures.err))
+    passes _ _ c.from_residual-in_err-pattern.result c.from_residual-in_err-pattern.ensures.1 (why_after _ _ c.in_ok-n.n _ c.in_ok-n.ensures (why_then _ _ _ (c.in_err-pattern.ensures.err c.args.text.now c.meant-meant.ensures)))
 
 pub returns-clause-ok : goal.returns-clause-ok
 returns-clause-ok g c =
@@ -21,4 +21,4 @@ returns-clause-ok g c =
     let fits : FitsSigned w32 n = search rules in
     let is = c.find.ensures.value ∙ ap (λ t. occurrence q t c.pointer-2.result (to_z w32 (of_z w32 n))) c.halves-2.ensures.joined
     ∙ ap (λ p. occurrence q s.text p (to_z w32 (of_z w32 n))) c.pointer-2.ensures.value ∙ ap (occurrence q s.text s.pointer) (to_z-of_z w32 n fits) in
-    then_ok _ n _ _ c.in_ok-n.ensures (then_ok _ q _ _ c.in_ok-pattern.ensures.ok (ap Ok (sym is)))
+    then_ok _ n _ _ c.in_ok-n.ensures (then_ok _ q _ _ (c.in_ok-pattern.ensures.ok c.args.text.now c.meant-meant.ensures) (ap Ok (sym is)))
