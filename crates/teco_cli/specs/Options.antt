@@ -22,6 +22,7 @@ option_rules = with_texts (codes "execute") (Some 101)
     ∷ with_text (codes "output") (Some 111)
     ∷ flag (codes "in-place") (Some 105)
     ∷ with_text (codes "backup") None
+    ∷ flag (codes "no-sync") None
     ∷ with_text (codes "session") None
     ∷ flag (codes "check") None
     ∷ with_number (codes "page-lines") None 1 1000000000
@@ -103,6 +104,7 @@ pub record HasLine (rows : List Row) (line : Line) : Type 0 where
   -- the output goes over the input, and what follows its name in the old file's, if that is kept
   pub in_place : IsTrue line.in_place ↔ IsInPlace rows
   pub backup : first_of (codes "backup") rows ≡ option_map string_bytes line.backup
+  pub no_sync : IsTrue line.no_sync ↔ (one_of (codes "no-sync") rows ≡ Some (codes "true"))
   -- the file that keeps the session, if one is given
   pub session : first_of (codes "session") rows ≡ option_map string_bytes line.session
   pub check : IsTrue line.check ↔ (one_of (codes "check") rows ≡ Some (codes "true"))

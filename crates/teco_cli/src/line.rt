@@ -73,6 +73,8 @@ pub struct Line {
     pub in_place: bool,
     /// What follows the input's name in the name under which the old file is kept then; without it none is kept.
     pub backup: Option<String>,
+    /// Whether an output takes its name before it outlasts a crash of the system.
+    pub no_sync: bool,
     /// The name of the file that keeps the session, if one is given.
     pub session: Option<String>,
     /// Whether the commands are checked, and nothing is run.
@@ -186,6 +188,7 @@ fn line_in<'a>(alloc: Global, matches: &ArgMatches<'a>) -> Result<Line, LineFaul
     let prompt = flag_at(matches, "prompt");
     let in_place = is_in_place(matches);
     let backup = text_at(alloc, matches, "backup")?;
+    let no_sync = flag_at(matches, "no-sync");
     let session = text_at(alloc, matches, "session")?;
     let check = flag_at(matches, "check");
     let explain = flag_at(matches, "explain");
@@ -201,6 +204,7 @@ fn line_in<'a>(alloc: Global, matches: &ArgMatches<'a>) -> Result<Line, LineFaul
         prompt,
         in_place,
         backup,
+        no_sync,
         session,
         check,
         explain,

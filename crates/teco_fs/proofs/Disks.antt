@@ -1,5 +1,5 @@
 -- The calls of a replacement, one after another, and its moments.
-use Rattle.std.proofs.Common.{◌≡◌, ◌≢◌, ◌⊎◌, inl, inr, ℕ, List, [], ◌++◌, append_assoc, Option, Some, Bool, true, false, Result, Ok, Err, refl, ap, sym, ◌∙◌}
+use Rattle.std.proofs.Common.{◌≡◌, ◌≢◌, ◌⊎◌, inl, inr, ℕ, List, [], ◌++◌, append_assoc, append-nil, Option, Some, Bool, true, false, Result, Ok, Err, refl, ap, sym, ◌∙◌}
 use Rattle.std.specs.Prelude.{OnOk, OnErr, bytes_eq}
 use Rattle.std.proofs.lemmas.Option.{same_Some}
 use Rattle.std.proofs.lemmas.Slice.Eq.{bytes_eq-Decides}
@@ -24,6 +24,13 @@ pub there_or_same : {name : List ℕ} {before now : Files} → IsThere name befo
 there_or_same (inl (inl there)) = inl there.1
 there_or_same (inl (inr created)) = inr created
 there_or_same (inr same) = inl same
+
+-- nothing was written to it yet
+pub appends_none : (name : List ℕ) (files : Files) → Appends name [] files files
+appends_none name files = record { whole = λ had is. is ∙ ap (λ (l : List ℕ). Some l) (sym (append-nil had)); others = λ other apart. refl }
+
+pub changes_none : (name : List ℕ) (files : Option Files) → Changes files files (Appends name [])
+changes_none name files before told = (before, told, appends_none name before)
 
 -- it was cut, or all is as it was
 pub cut_or_same : {name : List ℕ} {length : ℕ} {before now : Files} → CutsTo name length before now ⊎ Same before now → Same before now ⊎ CutsTo name length before now
@@ -118,16 +125,11 @@ module _ {name : List ℕ} where
     others = λ other apart. then.others other apart ∙ first.others other apart;
   }
 
-  appends_then : {xs ys : List ℕ} {old mid new : Option Files} → Changes old mid (Appends name xs) → Changes mid new (Appends name ys) → Changes old new (Appends name (xs ++ ys))
+  pub appends_then : {xs ys : List ℕ} {old mid new : Option Files} → Changes old mid (Appends name xs) → Changes mid new (Appends name ys) → Changes old new (Appends name (xs ++ ys))
   appends_then {xs} {ys} first then before told =
       let mid_is = first before told in
       let new_is = then mid_is.0 mid_is.1 in
       (new_is.0, new_is.1, appends_both mid_is.2 new_is.2)
-
-  pub appends_if : {A E : Type 0} {xs : List ℕ} {old mid : Option Files} (ys : List ℕ) (new : Option Files) (result : Result A E) → Changes old mid (Appends name xs) → OnOk result (Changes mid new (Appends name ys))
-      → OnOk result (Changes old new (Appends name (xs ++ ys)))
-  appends_if ys new (Ok done) first then = appends_then first then
-  appends_if ys new (Err fault) first then = tt
 
   -- moments of one call, and then of another
   pub passes_then : {old mid : Option Files} {a b c : Files → Type 0} → Passes old a b (SameBut name) → Changes old mid (SameBut name) → Passes mid b c (SameBut name) → Passes old a c (SameBut name)

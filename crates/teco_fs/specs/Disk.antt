@@ -1,5 +1,5 @@
 -- Files by their names, and how a call changes what they hold.
-use Rattle.std.specs.Prelude.{◌≡◌, ◌≢◌, ◌⊎◌, ◌++◌, ℕ, List, [], take, Option, Some, None, Result, Ok, Err, true, false}
+use Rattle.std.specs.Prelude.{◌≡◌, ◌≢◌, ◌⊎◌, ◌++◌, ℕ, List, [], length, take, Option, Some, None, Result, Ok, Err, true, false}
 use Rattle.std.specs.String.{string_bytes}
 use Rattle.teco_io.specs.Terminal.{IsFrontOf, count_after}
 use Rattle.teco_fs.specs.declared.target.Target.{Target}
@@ -97,6 +97,11 @@ Counts (Err fault) old new = new ≡ count_after true old
 abbrev pub Opens : Option Files → List ℕ → Option (List ℕ) → Type 0
 Opens files name coming = (before : Files) → files ≡ Some before
     → (bytes : List ℕ) × (before name ≡ Some bytes) × (coming ≡ Some bytes)
+
+-- Where the files are told, the file has not so many bytes, if it is there.
+abbrev pub HasOtherSize : Option Files → List ℕ → ℕ → Type 0
+HasOtherSize files name size = (before : Files) → files ≡ Some before → (bytes : List ℕ) → before name ≡ Some bytes
+    → length bytes ≢ size
 
 -- Where the files are told, this is the name of a stream.
 abbrev pub IsStream : Option Files → Files → List ℕ → Type 0

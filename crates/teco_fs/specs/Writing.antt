@@ -12,10 +12,6 @@ use Rattle.teco_fs.specs.declared.output.Written.TheVariants.{Whole, Changed}
 use Rattle.teco_fs.specs.Seen.{DiskSeen}
 use Rattle.teco_fs.specs.State.{DiskState}
 
--- the bytes of two parts, one after the other
-abbrev pub both : Bor (List ℕ) × Bor (List ℕ) → List ℕ
-both parts = parts.0.now ++ parts.1.now
-
 -- The name is that of a draft of the file.
 abbrev pub IsDraftOf : List ℕ → List ℕ → Type 0
 IsDraftOf file name = (number : ℕ) × (name ≡ draft_beside file number)

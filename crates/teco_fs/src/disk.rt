@@ -1,17 +1,19 @@
 //! Where files are.
 ghost use Rattle.std.specs.IoError.{error_kind};
-ghost use Rattle.std.specs.Prelude.{◌≡◌, ◌≢◌, ◌⊎◌, ◌++◌, ℕ, List, OnErr, OnOk};
+ghost use Rattle.std.specs.Prelude.{◌≡◌, ◌≢◌, ◌⊎◌, ℕ, List, OnErr, OnOk};
 ghost use Rattle.std.specs.declared.io.Error.{Error};
 ghost use Rattle.std.specs.declared.io.ErrorKind.{ErrorKind};
 ghost use Rattle.std.specs.Prelude.{[], None, Some, IfOk, IfSome, IsNone, IsSome, true, false};
-ghost use Rattle.teco_fs.specs.Disk.{Appends, AppendsFront, Creates, CutsTo, IsKeepingBy, IsStream, IsTargetOf, IsThere, KeepsAs, LeavesFiles, Opens, Removes, Renames, Same, SameBut};
+ghost use Rattle.teco_fs.specs.Disk.{Appends, AppendsFront, Creates, CutsTo, HasOtherSize, IsKeepingBy, IsStream, IsTargetOf, IsThere, KeepsAs, LeavesFiles, Opens, Removes, Renames, Same, SameBut};
 ghost use Rattle.teco_fs.specs.State.{DiskState, FilesChange, FilesPass, KeepsFiles, KeepsStreams, KeepsStreamsUntold, Looks, LooksUntold};
+ghost use Rattle.teco_store.specs.Slices.{bytes_in};
 
 use crate::target::Target;
 use crate::unkept::Unkept;
 use std::io;
 use std::io::ErrorKind;
 use teco_io::Source;
+use teco_store::Slices;
 
 /// Where files are, by their names. Each call is one of the system's.
 pub trait Disk {
@@ -44,6 +46,11 @@ pub trait Disk {
         ensures input { IfOk result (λ input. Opens (seen self.old).files name.now (Self.Input.coming input)) }
         ensures still { Looks result (seen self.old) (seen self.new) };
 
+    /// Whether the file of this name may have so many bytes, by what was known of it when it was opened, if it is the one that was opened
+    /// last.
+    fn may_have(&self, name: &str, size: usize) -> bool
+        ensures other { result ≡ false → HasOtherSize (seen self.now).files name.now size };
+
     /// Whether the file of this name is still what it was when it was opened, if it is the one that was opened last.
     fn is_as_read(&mut self, name: &str) -> io::Result<bool>
         ensures told { IfOk result (λ same. same ≡ false → (seen self.new).changed name.now) }
@@ -56,10 +63,10 @@ pub trait Disk {
         ensures target { IfOk result (λ target. (seen self.old).files ≢ None → IsTargetOf (seen self.old).streams name.now target) }
         ensures still { Looks result (seen self.old) (seen self.new) };
 
-    /// Writes both parts after what a device, a pipe or a socket has been given, or some of their bytes where it fails.
-    fn append(&mut self, name: &str, bytes: (&[u8], &[u8])) -> io::Result<()>
+    /// Writes the bytes after what a device, a pipe or a socket has been given, or some of them where it fails.
+    fn append(&mut self, name: &str, bytes: Slices<'_>) -> io::Result<()>
         ensures ok { OnOk result
-            (Appends name.now (bytes.entry.0.now ++ bytes.entry.1.now) (seen self.old).streams (seen self.new).streams) }
+            (Appends name.now (bytes_in bytes.entry) (seen self.old).streams (seen self.new).streams) }
         ensures others { SameBut name.now (seen self.old).streams (seen self.new).streams }
         ensures unkept { OnOk result ((seen self.new).unkept None) }
         ensures still { KeepsFiles result (seen self.old) (seen self.new) };

@@ -50,8 +50,9 @@ fn without_group(mode: u32) -> u32 {
 /// Gives a file the group, the owner and the permissions of another, as far as the system lets us, and says what it couldn't keep. The
 /// permissions come last, so that nobody may meanwhile do more than in the end.
 pub fn make_like<F: OpenFile + AsFd>(file: &F, old: &Metadata) -> Option<Unkept> {
-    let has_group = fchown(file, None, Some(old.gid())).is_ok();
-    let has_owner = fchown(file, Some(old.uid()), None).is_ok();
+    let has_both = fchown(file, Some(old.uid()), Some(old.gid())).is_ok();
+    let has_group = has_both || fchown(file, None, Some(old.gid())).is_ok();
+    let has_owner = has_both || fchown(file, Some(old.uid()), None).is_ok();
     let mode = match (has_owner, has_group) {
         (true, true) => old.mode() & 0o7777,
         (false, true) => old.mode() & 0o777,

@@ -5,29 +5,40 @@ use crate::disk::Disk;
 use crate::draft::{PRIVATE, cut, make_like, open_extended, open_new};
 use crate::failures::Failures;
 use crate::link::link_over;
-use crate::lock::{Lock, hold, hold_opened};
+use crate::lock::{Lock, hold_opened, open_held, open_known};
+use crate::shared::{ReadShared, SharedFile};
 use crate::target::{Target, append, end_of_links, is_same_file, known, target_of};
 use crate::unkept::Unkept;
+use std::alloc::Global;
 use std::fs::{Files, Metadata, OpenFile};
 use std::io::{ErrorKind, Write};
 use std::os::fd::AsFd;
 use std::os::unix::fs::MetadataExt;
 use std::{fs, io};
 use teco_io::ReaderSource;
+use teco_store::Slices;
 
 /// The permissions of a new file that takes the place of no other, if the file that was opened last has none for it.
 const NEW_FILE: u32 = 0o666;
+
+/// A file that was opened, and what it was then. It stays open, so that what becomes of it still shows when it has lost its name.
+#[derive(Drop)]
+struct Opened<F: Drop> {
+    about: Metadata,
+    // nothing if it is no regular file: whoever writes to a pipe has to see that nobody reads it
+    file: Option<SharedFile<F>>,
+}
 
 /// The files of the system, of which no clause tells what they hold.
 #[derive(Drop)]
 pub struct FileDisk<'a, R: Files> {
     rt: &'a R,
-    // the file that was opened last, as it was then
-    opened: Option<Metadata>,
-    // the file that was opened to be replaced, if other runs have to wait for this one
-    held: Option<R::File>,
+    // the file that was opened last; if it is to be replaced, other runs may have to wait for this one until it is closed
+    opened: Option<Opened<R::File>>,
     // the file whose place a new one is to take
     replaced: Option<Metadata>,
+    // what standard output goes to, once it was looked at
+    standard: Option<Metadata>,
     // what the output that was written last could not keep
     unkept: Option<Unkept>,
     // whether the file that was last asked about was not as it was when it was opened
@@ -35,45 +46,59 @@ pub struct FileDisk<'a, R: Files> {
     failures: Failures,
 }
 
-/// Opens a file to be read, and notes what it is. A folder can't be read.
-fn open_noted<R: Files>(
+/// A source of all that a file has, of which this is known. Both are noted.
+fn noted<F: ReadShared + Drop>(
+    alloc: Global,
+    (file, about): (F, Metadata),
+    opened: &mut Option<Opened<F>>,
+) -> io::Result<ReaderSource<SharedFile<F>>> {
+    let shared = SharedFile::new(alloc, file)?;
+    let file = match about.is_file() {
+        true => Some(shared.another()?),
+        false => None,
+    };
+    *opened = Some(Opened { about, file });
+    Ok(ReaderSource::new(shared))
+}
+
+/// Opens a file to be read, and notes what it is.
+fn open_noted<R: Files + AllocGlobal>(
     rt: &R,
     name: &str,
-    opened: &mut Option<Metadata>,
-) -> io::Result<ReaderSource<R::File>> {
-    let file = fs::open(rt, name)?;
-    let about = file.metadata()?;
-    if about.is_dir() {
-        return Err(io::Error::from(ErrorKind::IsADirectory));
-    }
-    *opened = Some(about);
-    Ok(ReaderSource::new(file))
+    opened: &mut Option<Opened<R::File>>,
+) -> io::Result<ReaderSource<SharedFile<R::File>>>
+where
+    R::File: ReadShared,
+{
+    let found = open_known(rt, name)?;
+    noted(rt.alloc(), found, opened)
 }
 
 /// Opens a regular file, and notes what it is. It is looked at before it is opened, since a pipe would wait for its writer. The file that
-/// was held before is let go first: whoever waits for it must not wait for this one too.
-fn open_regular<R: Files>(
+/// was opened before is let go first: whoever waits for it must not wait for this one too.
+fn open_regular<R: Files + AllocGlobal>(
     rt: &R,
     name: &str,
     waits: bool,
-    opened: &mut Option<Metadata>,
-    held: &mut Option<R::File>,
-) -> io::Result<Option<ReaderSource<R::File>>>
+    opened: &mut Option<Opened<R::File>>,
+) -> io::Result<Option<ReaderSource<SharedFile<R::File>>>>
 where
-    R::File: Lock,
+    R::File: Lock + ReadShared,
 {
-    *held = None;
+    *opened = None;
     if !fs::metadata(rt, name)?.is_file() {
         return Ok(None);
     }
-    if waits {
-        *held = hold(rt, name)?;
-    }
-    Ok(Some(open_noted(rt, name, opened)?))
+    let found = if waits {
+        open_held(rt, name)?
+    } else {
+        open_known(rt, name)?
+    };
+    Ok(Some(noted(rt.alloc(), found, opened)?))
 }
 
 /// Opens a regular file to be written after what it has, or makes one, and holds it.
-fn open_held<R: Files>(rt: &R, name: &str) -> io::Result<R::File>
+fn open_to_extend<R: Files>(rt: &R, name: &str) -> io::Result<R::File>
 where
     R::File: Lock,
 {
@@ -96,9 +121,17 @@ fn is_unchanged(was: &Metadata, now: &Metadata) -> bool {
         && was.ctime_nsec() == now.ctime_nsec()
 }
 
-/// Whether both are there, and are so.
-fn is_there_unchanged(was: &Option<Metadata>, now: &Option<Metadata>) -> bool {
-    matches!((was, now), (Some(was), Some(now)) if is_unchanged(was, now))
+/// Whether a file that was opened is there, and is what it was.
+fn is_there_unchanged<F: Drop>(opened: &Option<Opened<F>>, now: &Option<Metadata>) -> bool {
+    matches!((opened, now), (Some(opened), Some(now)) if is_unchanged(&opened.about, now))
+}
+
+/// Whether a file has changed since it was opened, also if it has lost its name.
+fn has_changed<F: OpenFile + Drop>(opened: &Opened<F>) -> bool {
+    match &opened.file {
+        Some(file) => !matches!(file.metadata(), Ok(now) if has_same_text(&opened.about, &now)),
+        None => true,
+    }
 }
 
 /// Gives the file that was opened last another name too, if it is what it was then. What is known of it is noted anew if nobody has written to
@@ -108,20 +141,23 @@ fn keep_opened<R: Files + AllocGlobal>(
     file: &str,
     temporary: &str,
     backup: &str,
-    opened: &mut Option<Metadata>,
+    opened: &mut Option<Opened<R::File>>,
 ) -> io::Result<()>
 where
     R::File: AsFd,
 {
     let end = end_of_links(rt, file)?;
     let was = fs::metadata(rt, end.as_str())?;
-    if !matches!(opened, Some(opened) if is_unchanged(opened, &was)) {
+    let Some(opened) = opened else {
+        return Err(io::Error::from(ErrorKind::ResourceBusy));
+    };
+    if !is_unchanged(&opened.about, &was) {
         return Err(io::Error::from(ErrorKind::ResourceBusy));
     }
     link_over(rt, end.as_str(), &was, temporary, backup)?;
     let now = fs::metadata(rt, end.as_str())?;
     if is_same_file(&was, &now) && has_same_text(&was, &now) {
-        *opened = Some(now);
+        opened.about = now;
     }
     Ok(())
 }
@@ -133,8 +169,8 @@ impl<'a, R: Files> FileDisk<'a, R> {
         FileDisk {
             rt,
             opened: None,
-            held: None,
             replaced: None,
+            standard: None,
             unkept: None,
             changed: false,
             failures: Failures {
@@ -148,33 +184,21 @@ impl<'a, R: Files> FileDisk<'a, R> {
     fn mode_of_draft(&self) -> u32 {
         match (&self.replaced, &self.opened) {
             (Some(_), _) => PRIVATE,
-            (None, Some(input)) if input.is_file() => input.mode() & 0o777,
+            (None, Some(input)) if input.about.is_file() => input.about.mode() & 0o777,
             (None, _) => NEW_FILE,
         }
     }
 
-    /// The file that was opened last, open once more, if a new file is to take its place. It has to be what it was.
-    fn open_replaced(&self, name: &str) -> io::Result<Option<R::File>> {
+    /// The file that was opened last, if a new file is to take its place under this name. It has to be what it was.
+    fn opened_replaced(&self, name: &str) -> io::Result<Option<&Opened<R::File>>> {
         match (&self.opened, &self.replaced) {
-            (Some(opened), Some(replaced)) if is_same_file(opened, replaced) => {
-                let file = fs::open(self.rt, name)?;
-                if !is_unchanged(opened, &file.metadata()?) {
+            (Some(opened), Some(replaced)) if is_same_file(&opened.about, replaced) => {
+                if !is_unchanged(&opened.about, &fs::metadata(self.rt, name)?) {
                     return Err(io::Error::from(ErrorKind::ResourceBusy));
                 }
-                Ok(Some(file))
+                Ok(Some(opened))
             }
             _ => Ok(None),
-        }
-    }
-
-    /// Whether a file that was opened before it lost its name has changed since it was read.
-    fn has_changed(&self, replaced: &Option<R::File>) -> bool {
-        match (&self.opened, replaced) {
-            (Some(opened), Some(file)) => match file.metadata() {
-                Ok(now) => !has_same_text(opened, &now),
-                Err(_) => true,
-            },
-            _ => false,
         }
     }
 
@@ -183,9 +207,9 @@ impl<'a, R: Files> FileDisk<'a, R> {
         ensures unkept { IfOk result (λ unkept. self.new.unkept ≡ unkept) }
         ensures failures { self.new.failures ≡ self.old.failures }
     {
-        let replaced = self.open_replaced(to)?;
+        let replaced = self.opened_replaced(to)?;
         fs::rename(self.rt, from, to)?;
-        if self.has_changed(&replaced) {
+        if matches!(replaced, Some(opened) if has_changed(opened)) {
             self.unkept = Some(Unkept::Changes);
         }
         Ok(self.unkept)
@@ -194,9 +218,9 @@ impl<'a, R: Files> FileDisk<'a, R> {
 
 impl<'a, R: Files + AllocGlobal> Disk for FileDisk<'a, R>
 where
-    R::File: AsFd + Lock,
+    R::File: AsFd + Lock + ReadShared,
 {
-    type Input = ReaderSource<R::File>;
+    type Input = ReaderSource<SharedFile<R::File>>;
 
     type Draft = R::File;
 
@@ -214,7 +238,7 @@ where
 
     ghost is_of = { λ _ _. ⊤ };
 
-    fn open(&mut self, name: &str) -> io::Result<ReaderSource<R::File>> {
+    fn open(&mut self, name: &str) -> io::Result<ReaderSource<SharedFile<R::File>>> {
         let opened = open_noted(self.rt, name, &mut self.opened);
         self.failures.counted(opened)
     }
@@ -223,14 +247,18 @@ where
         &mut self,
         name: &str,
         waits: bool,
-    ) -> io::Result<Option<ReaderSource<R::File>>> {
-        let opened = open_regular(self.rt, name, waits, &mut self.opened, &mut self.held);
+    ) -> io::Result<Option<ReaderSource<SharedFile<R::File>>>> {
+        let opened = open_regular(self.rt, name, waits, &mut self.opened);
         self.failures.counted(opened)
     }
 
-    fn reopen(&mut self, name: &str) -> io::Result<ReaderSource<R::File>> {
+    fn reopen(&mut self, name: &str) -> io::Result<ReaderSource<SharedFile<R::File>>> {
         let opened = open_noted(self.rt, name, &mut None);
         self.failures.counted(opened)
+    }
+
+    fn may_have(&self, _name: &str, size: usize) -> bool {
+        !matches!(&self.opened, Some(opened) if opened.about.size() != size as u64)
     }
 
     fn is_as_read(&mut self, name: &str) -> io::Result<bool> {
@@ -246,11 +274,11 @@ where
     }
 
     fn target_of(&mut self, name: &str) -> io::Result<Target> {
-        let found = target_of(self.rt, name, &mut self.replaced);
+        let found = target_of(self.rt, name, &mut self.standard, &mut self.replaced);
         self.failures.counted(found)
     }
 
-    fn append(&mut self, name: &str, bytes: (&[u8], &[u8])) -> io::Result<()> {
+    fn append(&mut self, name: &str, bytes: Slices<'_>) -> io::Result<()> {
         let appended = append(self.rt, name, bytes);
         self.unkept = None;
         self.failures.counted(appended)
@@ -262,7 +290,7 @@ where
     }
 
     fn open_to_extend(&mut self, name: &str) -> io::Result<R::File> {
-        let opened = open_held(self.rt, name);
+        let opened = open_to_extend(self.rt, name);
         self.failures.counted(opened)
     }
 

@@ -1,6 +1,6 @@
 //! Runs that wait for each other.
 use crate::target::{is_same_file, known};
-use std::fs::{File, Files, OpenFile, TryLockError};
+use std::fs::{File, Files, Metadata, OpenFile, TryLockError};
 use std::io::ErrorKind;
 use std::{fs, io};
 
@@ -26,23 +26,33 @@ impl Lock for File {
     }
 }
 
-/// Waits until no other run holds the file of this name, and holds it. A run that was waited for may have put another file in its place,
-/// which is then waited for. Nothing is held where files of that kind can't be.
-pub fn hold<R: Files>(rt: &R, name: &str) -> io::Result<Option<R::File>>
+/// Opens a file to be read, and tells what it is. A folder can't be read.
+pub fn open_known<R: Files>(rt: &R, name: &str) -> io::Result<(R::File, Metadata)> {
+    let file = fs::open(rt, name)?;
+    let about = file.metadata()?;
+    if about.is_dir() {
+        return Err(io::Error::from(ErrorKind::IsADirectory));
+    }
+    Ok((file, about))
+}
+
+/// Opens the file of this name to be read once no other run holds it, holds it until it is closed, and tells what it is. A run that was
+/// waited for may have put another file in its place, which is then waited for. Nothing is held where files of that kind can't be.
+pub fn open_held<R: Files>(rt: &R, name: &str) -> io::Result<(R::File, Metadata)>
 where
     R::File: Lock,
 {
     for _ in 0..TURNS {
         let file = fs::open(rt, name)?;
         if file.lock().is_err() {
-            return Ok(None);
+            break;
         }
         let held = file.metadata()?;
         if matches!(known(rt, name)?, Some(now) if is_same_file(&now, &held)) {
-            return Ok(Some(file));
+            return Ok((file, held));
         }
     }
-    Ok(None)
+    open_known(rt, name)
 }
 
 /// Holds a file that was opened under this name. It is an error if another run holds it, or has given the name to another file since. Nothing

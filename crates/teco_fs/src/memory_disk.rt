@@ -13,6 +13,7 @@ use std::io;
 use std::io::ErrorKind;
 use teco_core::NoMemory;
 use teco_io::{MemorySource, Source};
+use teco_store::Slices;
 
 mod log;
 
@@ -163,6 +164,10 @@ impl Disk for MemoryDisk {
         self.open(name)
     }
 
+    fn may_have(&self, name: &str, size: usize) -> bool {
+        matches!(self.log.bytes(name), Some(bytes) if bytes.len() == size)
+    }
+
     fn is_as_read(&mut self, _name: &str) -> io::Result<bool> {
         Ok(self.refused != RefusedCall::Changed)
     }
@@ -172,8 +177,8 @@ impl Disk for MemoryDisk {
         self.failures.counted(target)
     }
 
-    fn append(&mut self, name: &str, bytes: (&[u8], &[u8])) -> io::Result<()> {
-        let appended = self.devices.written_both(self.refused, name, bytes);
+    fn append(&mut self, name: &str, bytes: Slices<'_>) -> io::Result<()> {
+        let appended = self.devices.written_slices(self.refused, name, bytes);
         self.unkept = None;
         self.failures.counted(appended)
     }

@@ -4,12 +4,13 @@ use std::io::{ErrorKind, Write};
 use std::os::unix::fs::{FileTypeExt, MetadataExt};
 use std::path::Path;
 use std::{fs, io};
+use teco_store::Slices;
 
 /// How many links are followed, one after another. The system gives up after as many.
 const LINKS: u32 = 40;
 
-/// The names of the program's own standard output.
-const STANDARD_OUTPUT: [&str; 2] = ["/dev/fd/1", "/proc/self/fd/1"];
+/// The names of the program's own standard output, of which a system has one at least.
+const STANDARD_OUTPUT: [&str; 2] = ["/proc/self/fd/1", "/dev/fd/1"];
 
 /// The folder of the process's own descriptors, each a link to what it leads to.
 const DESCRIPTORS: &str = "/proc/self/fd";
@@ -28,14 +29,22 @@ pub fn is_same_file(one: &Metadata, other: &Metadata) -> bool {
     one.dev() == other.dev() && one.ino() == other.ino()
 }
 
-/// Whether a file is the one that the program's own standard output goes to.
-fn is_standard_output<R: Files>(rt: &R, file: &Metadata) -> bool {
+/// What the program's own standard output goes to, if the system has a name for it.
+fn standard_output<R: Files>(rt: &R) -> Option<Metadata> {
     for name in STANDARD_OUTPUT.iter() {
-        if matches!(fs::metadata(rt, *name), Ok(output) if is_same_file(&output, file)) {
-            return true;
+        if let Ok(output) = fs::metadata(rt, *name) {
+            return Some(output);
         }
     }
-    false
+    None
+}
+
+/// Whether a file is the one that the program's own standard output goes to. That stays the same, and so is looked at once.
+fn is_standard_output<R: Files>(rt: &R, file: &Metadata, standard: &mut Option<Metadata>) -> bool {
+    if standard.is_none() {
+        *standard = standard_output(rt);
+    }
+    matches!(standard, Some(output) if is_same_file(output, file))
 }
 
 /// Whether a link is one that the system makes for a descriptor of a process: all of these lie on one file system.
@@ -71,9 +80,9 @@ pub fn end_of_links<R: Files + AllocGlobal>(rt: &R, name: &str) -> io::Result<St
     Err(io::Error::from(ErrorKind::FilesystemLoop))
 }
 
-/// What is known of the file of this name, if it is there.
-pub fn known<R: Files>(rt: &R, name: &str) -> io::Result<Option<Metadata>> {
-    match fs::metadata(rt, name) {
+/// What is known of a file, if the look at it found one.
+fn if_there(looked: io::Result<Metadata>) -> io::Result<Option<Metadata>> {
+    match looked {
         Ok(about) => Ok(Some(about)),
         Err(error) => match error.kind() {
             ErrorKind::NotFound => Ok(None),
@@ -82,20 +91,40 @@ pub fn known<R: Files>(rt: &R, name: &str) -> io::Result<Option<Metadata>> {
     }
 }
 
-/// What is known of a file that may be written. The file that standard output goes to is refused: replaced, it would lose what the
-/// program and its caller have put there.
-fn file_to_write<R: Files>(rt: &R, name: &str) -> io::Result<Metadata> {
-    let file = OpenOptions::new().append(true).open(rt, name)?;
-    let about = file.metadata()?;
-    if is_standard_output(rt, &about) {
+/// What is known of the file of this name, if it is there.
+pub fn known<R: Files>(rt: &R, name: &str) -> io::Result<Option<Metadata>> {
+    if_there(fs::metadata(rt, name))
+}
+
+/// Whether it is a file, and no stream. A folder is refused, and a disk: it has no end after which something could be put.
+fn is_file(about: &Metadata) -> io::Result<bool> {
+    if about.is_dir() {
+        return Err(io::Error::from(ErrorKind::IsADirectory));
+    }
+    if about.file_type().is_block_device() {
+        return Err(io::Error::from(ErrorKind::Unsupported));
+    }
+    Ok(about.is_file())
+}
+
+/// Sees that a file may be written. The file that standard output goes to is refused: replaced, it would lose what the program and its
+/// caller have put there.
+fn see_writable<R: Files>(
+    rt: &R,
+    name: &str,
+    about: &Metadata,
+    standard: &mut Option<Metadata>,
+) -> io::Result<()> {
+    let _file = OpenOptions::new().append(true).open(rt, name)?;
+    if is_standard_output(rt, about, standard) {
         return Err(io::Error::from(ErrorKind::ResourceBusy));
     }
-    Ok(about)
+    Ok(())
 }
 
 /// Where the output of this name goes. What the file is tells that, and not where its name lies. A file has to be one that may be
-/// written; what is known of it is put into `replaced`, which is nothing where no file is there. A disk is refused: it has no end after
-/// which something could be put.
+/// written; what is known of it is put into `replaced`, which is nothing where no file is there. What the program's own
+/// standard output goes to is put into `standard`, once it was asked for.
 ///
 /// Links are followed to their end, so that they stay what they are. A link that leads to nothing makes the file that it leads
 /// to, as `> link` does in a shell. The links are those that the system followed just before: one that it doesn't follow, as
@@ -103,32 +132,37 @@ fn file_to_write<R: Files>(rt: &R, name: &str) -> io::Result<Metadata> {
 pub fn target_of<R: Files + AllocGlobal>(
     rt: &R,
     name: &str,
+    standard: &mut Option<Metadata>,
     replaced: &mut Option<Metadata>,
 ) -> io::Result<Target> {
-    let there = known(rt, name)?;
+    *replaced = None;
+    let itself = if_there(fs::symlink_metadata(rt, name))?;
+    let is_link = matches!(&itself, Some(about) if about.is_symlink());
+    let there = if is_link { known(rt, name)? } else { itself };
     if let Some(about) = &there {
-        if about.is_dir() {
-            return Err(io::Error::from(ErrorKind::IsADirectory));
-        }
-        if about.file_type().is_block_device() {
-            return Err(io::Error::from(ErrorKind::Unsupported));
-        }
-        if !about.is_file() {
-            *replaced = None;
+        if !is_file(about)? {
             return Ok(Target::Stream);
         }
     }
-    let end = end_of_links(rt, name)?;
-    *replaced = match there {
-        Some(_) => Some(file_to_write(rt, end.as_str())?),
-        None => None,
+    let end = if is_link {
+        end_of_links(rt, name)?
+    } else {
+        String::from_str(rt.alloc(), name)?
     };
+    if let Some(about) = &there {
+        see_writable(rt, end.as_str(), about, standard)?;
+    }
+    *replaced = there;
     Ok(Target::File(end))
 }
 
-/// Writes both parts after what a device, a pipe or a socket has.
-pub fn append<R: Files>(rt: &R, name: &str, bytes: (&[u8], &[u8])) -> io::Result<()> {
+/// Writes the bytes after what a device, a pipe or a socket has.
+pub fn append<R: Files>(rt: &R, name: &str, bytes: Slices<'_>) -> io::Result<()> {
     let mut stream = OpenOptions::new().append(true).open(rt, name)?;
-    stream.write_all(bytes.0)?;
-    stream.write_all(bytes.1)
+    let mut left = bytes;
+    while let Some((slice, others)) = left.split_first() {
+        stream.write_all(slice)?;
+        left = others;
+    }
+    Ok(())
 }

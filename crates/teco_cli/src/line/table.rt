@@ -8,7 +8,7 @@ use crate::{MOST_STEPS, OptionRow, Takes};
 use teco_core::DEPTH_LIMIT;
 
 /// Every option, in the order of the help, and then the operands.
-static OPTIONS: [OptionRow; 19] = [
+static OPTIONS: [OptionRow; 20] = [
     OptionRow {
         name: "execute",
         short: Some('e'),
@@ -64,6 +64,13 @@ static OPTIONS: [OptionRow; 19] = [
         takes: Takes::Text,
         value: "SUFFIX",
         help: "The same, and keeps the old file as INPUT with SUFFIX after its name; --in-place=SUFFIX says so too, and -i.bak",
+    },
+    OptionRow {
+        name: "no-sync",
+        short: None,
+        takes: Takes::Nothing,
+        value: "",
+        help: "Does not wait until each output is on the disk; a crash of the system may leave a part of one",
     },
     OptionRow {
         name: "session",

@@ -1,8 +1,9 @@
 //! The log of a disk in memory, which tells its files.
 ghost use Rattle.std.specs.Option.{option_copied, option_map};
-ghost use Rattle.std.specs.Prelude.{◌≡◌, ◌≢◌, ◌∷◌, ◌++◌, [], IfOk, OnErr, OnOk, Some};
+ghost use Rattle.std.specs.Prelude.{◌≡◌, ◌≢◌, ◌∷◌, [], IfOk, OnErr, OnOk, Some};
 ghost use Rattle.teco_fs.specs.Disk.{Appends, AppendsFront, Creates, CutsTo, IsThere, KeepsAs, Opens, Removes, Renames, Same, SameBut};
 ghost use Rattle.teco_fs.specs.FileLog.{GrowsByOne, files_of};
+ghost use Rattle.teco_store.specs.Slices.{bytes_in};
 
 use super::RefusedCall;
 use std::alloc::Global;
@@ -11,6 +12,7 @@ use std::io::ErrorKind;
 use std::marker::Model;
 use teco_core::NoMemory;
 use teco_io::{MemorySource, Source};
+use teco_store::Slices;
 
 /// What a call made of the files.
 #[derive(Drop)]
@@ -207,18 +209,22 @@ impl Log {
         noted
     }
 
-    pub(super) fn written_both(
+    pub(super) fn written_slices(
         &mut self,
         refused: RefusedCall,
         name: &str,
-        bytes: (&[u8], &[u8]),
+        bytes: Slices<'_>,
     ) -> io::Result<()>
         ensures ok { OnOk result
-            (Appends name.now (bytes.entry.0.now ++ bytes.entry.1.now) (files_of self.old) (files_of self.new)) }
+            (Appends name.now (bytes_in bytes.entry) (files_of self.old) (files_of self.new)) }
         ensures others { SameBut name.now (files_of self.old) (files_of self.new) }
     {
-        self.written(refused, name, bytes.0)?;
-        self.written(refused, name, bytes.1)
+        let mut left = bytes;
+        while let Some((slice, others)) = left.split_first() {
+            self.written(refused, name, slice)?;
+            left = others;
+        }
+        Ok(())
     }
 
     pub(super) fn cut(&mut self, refused: RefusedCall, name: &str, length: u64) -> io::Result<()>
