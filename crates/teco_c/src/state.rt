@@ -6,7 +6,7 @@ ghost use Rattle.teco_c.specs.Looks.{Tells, TellsIf, Says, Copies, CopiesIf, reg
 use crate::answers::{CLOSED, OUTSIDE};
 use crate::halves::{bytes_from, halves_between, line_ends};
 use crate::handle::Teco;
-use crate::room::{copy_from, copy_front};
+use crate::room::{copy_from, copy_front, copy_output};
 use teco_core::{CaseMode, Reg};
 use teco_store::Desk;
 
@@ -86,8 +86,7 @@ pub extern "C" fn teco_output(t: &mut Teco, from: usize, room: &mut [u8], len: &
         *len = 0;
         return CLOSED;
     };
-    let (own, rest) = session.editor().output();
-    *len = copy_from(room, own, rest, from);
+    *len = copy_output(room, session.editor().output(), from);
     0
 }
 

@@ -228,7 +228,7 @@ fn show_sizes(out: &mut String, editor: &Editor) -> Result<(), NoMemory>
     let pointer = editor.pointer();
     let len = length_of(editor.halves());
     let place = editor.place();
-    let output = length_of(editor.output());
+    let output = editor.output().len();
     let pushed = editor.pushed().len();
     writeln!(
         out,

@@ -7,8 +7,8 @@ use Rattle.teco_cli.specs.declared.line.Line.{Line}
 use Rattle.teco_fs.specs.Disk.{Changes, Files, Passes, SameBut}
 use Rattle.teco_fs.specs.Seen.{DiskSeen, IsAsked}
 use Rattle.teco_fs.specs.State.{DiskState}
-use Rattle.teco_fs.specs.Writing.{AddsDrafts, HasDraft, IsPut, IsWriting, WritesOutput}
-use Rattle.teco_driver.specs.Backups.{AfterKeeping, KeepsOld, KeptAs, LeavesOver, WhileKeeping, WritesOver}
+use Rattle.teco_fs.specs.Writing.{AddsDrafts, HasDraft, IsPut, IsWriting}
+use Rattle.teco_driver.specs.Backups.{AfterKeeping, KeepsOld, KeptAs, LeavesOver, WhileKeeping, WritesOver, replacing}
 use Rattle.teco_driver.specs.Run.{replaces_input}
 
 -- without a suffix
@@ -33,16 +33,17 @@ module _ {I : Type 0} {old mid : DiskSeen I} {name : List ℕ} {suffix : Option 
   streams_kept : {new : Files} → SameBut name mid.streams new → SameBut name old.streams new
   streams_kept same other apart = same other apart ∙ ap (λ (streams : Files). streams other) kept.streams
 
-  pub writes_kept : {new : DiskSeen I} {output : List ℕ} → WritesOutput mid new name output → WritesOver old new name suffix output
-  writes_kept {new} {output} w = record {
-    files = files_kept (subst (λ (streams : Files). Changes mid.files new.files (IsPut name output (streams name) (new.streams name))) kept.streams w.files);
-    streams = streams_kept w.streams;
-    moments = moments_kept new w.moments;
+  pub writes_kept : {synced : Bool} {new : DiskSeen I} {output : List ℕ} → Changes mid.files new.files (IsPut name output (mid.streams name) (new.streams name))
+      → SameBut name mid.streams new.streams → (synced ≡ true → Passes mid.files mid.left new.left (IsWriting name output)) → WritesOver old new name (replacing suffix synced) output
+  writes_kept {synced} {new} {output} puts same passes = record {
+    files = files_kept (subst (λ (streams : Files). Changes mid.files new.files (IsPut name output (streams name) (new.streams name))) kept.streams puts);
+    streams = streams_kept same;
+    moments = λ sync. moments_kept new (passes sync);
   }
 
-  pub leaves_kept : {new : DiskSeen I} {output : List ℕ} → Changes mid.files new.files (AddsDrafts name) → SameBut name mid.streams new.streams
-      → Passes mid.files mid.left new.left (IsWriting name output) → LeavesOver old new name suffix output
-  leaves_kept {new} adds same passes = record { files = files_kept adds; streams = streams_kept same; moments = moments_kept new passes }
+  pub leaves_kept : {synced : Bool} {new : DiskSeen I} {output : List ℕ} → Changes mid.files new.files (AddsDrafts name) → SameBut name mid.streams new.streams
+      → (synced ≡ true → Passes mid.files mid.left new.left (IsWriting name output)) → LeavesOver old new name (replacing suffix synced) output
+  leaves_kept {synced} {new} adds same passes = record { files = files_kept adds; streams = streams_kept same; moments = λ sync. moments_kept new (passes sync) }
 
 -- asked once the old bytes were kept
 pub asked_kept : {D : Type 0} {seen : D → DiskState} {old mid : Option Files} {name bytes : List ℕ} (suffix : Option (List ℕ)) {had had_then : Option (List ℕ)}
@@ -58,13 +59,16 @@ asked_kept suffix kept same asked = record {
 }
 
 -- No old bytes are kept.
-module _ {I : Type 0} {old new : DiskSeen I} {name output : List ℕ} {suffix : Option (List ℕ)} (none : suffix ≡ None) where
-  pub writes_plain : WritesOutput old new name output → WritesOver old new name suffix output
-  writes_plain w = subst (λ suffix. WritesOver old new name suffix output) (sym none) (writes_kept {old = old} {mid = old} kept_none {new = new} w)
+module _ {I : Type 0} {old new : DiskSeen I} {name output : List ℕ} {suffix : Option (List ℕ)} {synced : Bool} (none : suffix ≡ None)
+    (passes : synced ≡ true → Passes old.files old.left new.left (IsWriting name output)) where
+  pub writes_plain : Changes old.files new.files (IsPut name output (old.streams name) (new.streams name)) → SameBut name old.streams new.streams
+      → WritesOver old new name (replacing suffix synced) output
+  writes_plain puts same =
+      subst (λ suffix. WritesOver old new name (replacing suffix synced) output) (sym none) (writes_kept {old = old} {mid = old} kept_none {synced = synced} {new = new} puts same passes)
 
-  pub leaves_plain : Changes old.files new.files (AddsDrafts name) → SameBut name old.streams new.streams → Passes old.files old.left new.left (IsWriting name output)
-      → LeavesOver old new name suffix output
-  leaves_plain adds same passes = subst (λ suffix. LeavesOver old new name suffix output) (sym none) (leaves_kept {old = old} {mid = old} kept_none {new = new} adds same passes)
+  pub leaves_plain : Changes old.files new.files (AddsDrafts name) → SameBut name old.streams new.streams → LeavesOver old new name (replacing suffix synced) output
+  leaves_plain adds same =
+      subst (λ suffix. LeavesOver old new name (replacing suffix synced) output) (sym none) (leaves_kept {old = old} {mid = old} kept_none {synced = synced} {new = new} adds same passes)
 
 kept_if : (in_place over : Bool) (suffix : Option (List ℕ)) → (in_place || over) ≡ false → (if in_place then suffix else None) ≡ None
 kept_if false over suffix none = refl

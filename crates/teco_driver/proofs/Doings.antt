@@ -9,7 +9,6 @@ use Rattle.teco_fs.specs.declared.unkept.Unkept.{Unkept}
 use Rattle.teco_io.specs.declared.input.InputFault.{InputFault}
 use Rattle.teco_io.specs.declared.input.InputFault.TheVariants as input
 use Rattle.teco_cli.specs.declared.line.Line.{Line}
-use Rattle.teco_cli.specs.Options.{suffix_of}
 use Rattle.teco_cli.specs.StreamNames.{is_standard_output}
 use Rattle.teco_session.specs.History.{History, present}
 use Rattle.teco_serve.specs.Exchange.{allowance}
@@ -17,7 +16,7 @@ use Rattle.teco_serve.specs.Serving.{Serves}
 use Rattle.teco_io.specs.Terminal.{Screen, Shows}
 use Rattle.teco_fs.specs.declared.reason.Reason.{Reason}
 use Rattle.teco_fs.specs.Writing.{HasDraft, IsPut}
-use Rattle.teco_driver.specs.Backups.{AfterKeeping, FailsToKeep, LeavesOver, WritesOver}
+use Rattle.teco_driver.specs.Backups.{AfterKeeping, FailsToKeep, LeavesOver, Replacing, WritesOver, replacing_of}
 use Rattle.teco_serve.specs.Ending.{fate_without_input, output_of}
 use Rattle.teco_driver.specs.Seen.{CommandsSeen, InputSeen, OutputSeen, RunSeen, run_seen}
 use Rattle.teco_fs.specs.Console.{TerminalSeen, terminal_seen}
@@ -120,18 +119,18 @@ module _ {I : Type 0} {old mid : DiskSeen I} (kept : KeepsDisk old mid) where
     fate_is = reads.fate_is;
   })
 
-  pub writes_after : {new : DiskSeen I} {name : List ℕ} {suffix : Option (List ℕ)} {output : List ℕ} → WritesOver mid new name suffix output → WritesOver old new name suffix output
-  writes_after {new} {name} {suffix} {output} w = record {
-    files = λ before told. subst (λ (streams : Files). Changes mid.files new.files (AfterKeeping name suffix (IsPut name output (streams name) (new.streams name)))) kept.streams w.files before (kept.files ∙ told);
+  pub writes_after : {new : DiskSeen I} {name : List ℕ} {how : Replacing} {output : List ℕ} → WritesOver mid new name how output → WritesOver old new name how output
+  writes_after {new} {name} {how} {output} w = record {
+    files = λ before told. subst (λ (streams : Files). Changes mid.files new.files (AfterKeeping name how.suffix (IsPut name output (streams name) (new.streams name)))) kept.streams w.files before (kept.files ∙ told);
     streams = λ other apart. w.streams other apart ∙ ap (λ (streams : Files). streams other) kept.streams;
-    moments = λ before told files left. elim (w.moments before (kept.files ∙ told) files left) [ inl was ↦ inl (kept.moments files was) | inr now ↦ inr now ];
+    moments = λ synced before told files left. elim (w.moments synced before (kept.files ∙ told) files left) [ inl was ↦ inl (kept.moments files was) | inr now ↦ inr now ];
   }
 
-  pub leaves_after : {new : DiskSeen I} {name : List ℕ} {suffix : Option (List ℕ)} {output : List ℕ} → LeavesOver mid new name suffix output → LeavesOver old new name suffix output
+  pub leaves_after : {new : DiskSeen I} {name : List ℕ} {how : Replacing} {output : List ℕ} → LeavesOver mid new name how output → LeavesOver old new name how output
   leaves_after f = record {
     files = λ before told. f.files before (kept.files ∙ told);
     streams = λ other apart. f.streams other apart ∙ ap (λ (streams : Files). streams other) kept.streams;
-    moments = λ before told files left. elim (f.moments before (kept.files ∙ told) files left) [ inl was ↦ inl (kept.moments files was) | inr now ↦ inr now ];
+    moments = λ synced before told files left. elim (f.moments synced before (kept.files ∙ told) files left) [ inl was ↦ inl (kept.moments files was) | inr now ↦ inr now ];
   }
 
   pub keep_fails_after : {new : DiskSeen I} {name : List ℕ} {suffix : Option (List ℕ)} {fate : Fate} → FailsToKeep mid new name suffix fate → FailsToKeep old new name suffix fate
@@ -145,21 +144,21 @@ module _ {I : Type 0} {old mid : DiskSeen I} (kept : KeepsDisk old mid) where
     fate_is = f.fate_is;
   }
 
-  pub fails_after : {new : DiskSeen I} {name : List ℕ} {suffix : Option (List ℕ)} {output : List ℕ} {fate : Fate} → (named_output mid new name suffix).fails output fate → (named_output old new name suffix).fails output fate
+  pub fails_after : {new : DiskSeen I} {name : List ℕ} {how : Replacing} {output : List ℕ} {fate : Fate} → (named_output mid new name how).fails output fate → (named_output old new name how).fails output fate
   fails_after (inl f) = inl (record { leaves = leaves_after f.leaves; error = f.error; given = f.given; fate_is = f.fate_is })
   fails_after (inr f) = inr (keep_fails_after f)
 
-  pub as_read_after : (new : DiskSeen I) (name : List ℕ) (suffix : Option (List ℕ)) (output : List ℕ) → (named_output mid new name suffix).is_as_read output → (named_output old new name suffix).is_as_read output
-  as_read_after new name suffix output r =
+  pub as_read_after : (new : DiskSeen I) (name : List ℕ) (how : Replacing) (output : List ℕ) → (named_output mid new name how).is_as_read output → (named_output old new name how).is_as_read output
+  as_read_after new name how output r =
       subst (λ (streams : Files). new.asked name old.files (λ before now. streams name ≡ None → HasDraft name output before now)) kept.streams
       (subst (λ (files : Option Files). new.asked name files (λ before now. mid.streams name ≡ None → HasDraft name output before now)) kept.files r)
 
-  pub change_after : {new : DiskSeen I} {name : List ℕ} {suffix : Option (List ℕ)} {output : List ℕ} → FindsChange mid new name suffix output → FindsChange old new name suffix output
+  pub change_after : {new : DiskSeen I} {name : List ℕ} {how : Replacing} {output : List ℕ} → FindsChange mid new name how output → FindsChange old new name how output
   change_after f = record { changed = f.changed; leaves = leaves_after f.leaves }
 
   -- a run over an input that was read is one over where it was read from
   pub to_file : {line : Line} {bytes : List ℕ} {input : InputSeen} {commands : CommandsSeen} {term : TerminalSeen} (new : DiskSeen I) (to : List ℕ) → input.is_input bytes
-      → Leads (doings line (given_input bytes) (named_output mid new to (suffix_of line)) commands term) (doings line input (named_output old new to (suffix_of line)) commands term)
+      → Leads (doings line (given_input bytes) (named_output mid new to (replacing_of line)) commands term) (doings line input (named_output old new to (replacing_of line)) commands term)
   to_file {line} {bytes} {input} {commands} {term} new to given = record {
     lacks = λ fate none. absurd none;
     refuses = λ none. absurd none.1;
@@ -172,7 +171,7 @@ module _ {I : Type 0} {old mid : DiskSeen I} (kept : KeepsDisk old mid) where
       serves = s.serves;
       output_is = s.output_is;
     };
-    writes = λ output w. ((λ over. as_read_after new to (suffix_of line) output (w.0 over)), writes_after w.1);
+    writes = λ output w. ((λ over. as_read_after new to (replacing_of line) output (w.0 over)), writes_after w.1);
     fails = λ output fate f. fails_after f;
     same = λ output h. (h.0, λ before told. h.1 before (kept.files ∙ told));
     changed = λ output h. (h.0, change_after h.1);
@@ -278,7 +277,7 @@ module _ {I T : Type 0} (line : Line) (name : List ℕ) (input : InputSeen) (com
       → ((term : TerminalSeen) (place : OutputSeen) → term.still → place.keeps → EndsBy (doings line input place commands term) fate)
       → after ≡ before → KeepsDisk old new → EndsIn b line to (run_seen input commands old new screen before after) fate
   to_place true to ends still kept = record { between = after; ends = ends (terminal_seen screen before after) (standard_output screen after after) still refl; files = kept }
-  to_place false to ends still kept = ends (terminal_seen screen before after) (named_output old new to (suffix_of line)) still kept
+  to_place false to ends still kept = ends (terminal_seen screen before after) (named_output old new to (replacing_of line)) still kept
 
   -- nothing was read or shown
   pub idle_ends : ((term : TerminalSeen) (place : OutputSeen) → term.still → place.keeps → EndsBy (doings line input place commands term) fate)
@@ -293,15 +292,15 @@ module _ {I T : Type 0} (line : Line) (name : List ℕ) (input : InputSeen) (com
   -- After a serving that ended so, from where nothing was written.
   served_to : (output : List ℕ) (between : T) (end : Served) (place : List ℕ) (b : Bool)
       → ServesInput line input.is_input commands (terminal_seen screen before between) end output
-      → FinishesIn b end output (replaces_input line) (suffix_of line) place old new screen between after fate
+      → FinishesIn b end output (replaces_input line) (replacing_of line) place old new screen between after fate
       → EndsIn b line place (run_seen input commands old new screen before after) fate
   served_to output between end place true s f = record { between = between; ends = ends_so (on_terminal {line = line} {input = input} {to = standard_output screen between after} {commands = commands} {term = terminal_seen screen before between} {end = end} {output = output} s (λ bytes. tt)) fate f.0; files = f.1 }
   served_to output between end place false s f =
-      ends_so (after_serving {line = line} {input = input} {to = named_output old new place (suffix_of line)} {commands = commands} {term = terminal_seen screen before after} {end = end} {output = output} (subst (λ t. ServesInput line input.is_input commands (terminal_seen screen before t) end output) (sym f.1) s)) fate f.0
+      ends_so (after_serving {line = line} {input = input} {to = named_output old new place (replacing_of line)} {commands = commands} {term = terminal_seen screen before after} {end = end} {output = output} (subst (λ t. ServesInput line input.is_input commands (terminal_seen screen before t) end output) (sym f.1) s)) fate f.0
 
   over_served : {output : List ℕ} {between : T} {end : Served} {place : List ℕ} → place ≡ output_of line name
       → ServesInput line input.is_input commands (terminal_seen screen before between) end output
-      → FinishesIn (is_standard_output place) end output (replaces_input line) (suffix_of line) place old new screen between after fate
+      → FinishesIn (is_standard_output place) end output (replaces_input line) (replacing_of line) place old new screen between after fate
       → Edits line name (run_seen input commands old new screen before after) fate
   over_served {output} {between} {end} {place} named s f =
       record { ends = subst (λ to. EndsIn (is_standard_output to) line to (run_seen input commands old new screen before after) fate) named (served_to output between end place (is_standard_output place) s f) }
@@ -312,10 +311,10 @@ module _ {I T : Type 0} (line : Line) (name : List ℕ) (input : InputSeen) (com
       → Edits line name (run_seen input commands old new screen before after) fate
   over_read {mid} {bytes} kept given e = record { ends = read_to mid bytes (is_standard_output (output_of line name)) (output_of line name) kept given e.ends }
 
-pub finishes_otherwise : {I T : Type 0} (output name : List ℕ) (in_place : Bool) (suffix : Option (List ℕ)) (disk : DiskSeen I) (screen : T → Screen) (term : T) (b : Bool) (end : Served) → end ≢ served.Exit
-    → FinishesIn b end output in_place suffix name disk disk screen term term (Ended end)
-finishes_otherwise output name in_place suffix disk screen term true end other = (ended_otherwise (doings_after end output ⊥ (standard_output screen term term)) end output other (refl, refl) refl, kept_same)
-finishes_otherwise output name in_place suffix disk screen term false end other = (ended_otherwise (doings_after end output (IsTrue in_place) (named_output disk disk name suffix)) end output other (refl, refl) kept_same, refl)
+pub finishes_otherwise : {I T : Type 0} (output name : List ℕ) (in_place : Bool) (how : Replacing) (disk : DiskSeen I) (screen : T → Screen) (term : T) (b : Bool) (end : Served) → end ≢ served.Exit
+    → FinishesIn b end output in_place how name disk disk screen term term (Ended end)
+finishes_otherwise output name in_place how disk screen term true end other = (ended_otherwise (doings_after end output ⊥ (standard_output screen term term)) end output other (refl, refl) refl, kept_same)
+finishes_otherwise output name in_place how disk screen term false end other = (ended_otherwise (doings_after end output (IsTrue in_place) (named_output disk disk name how)) end output other (refl, refl) kept_same, refl)
 
 -- without the input
 pub lacks_file : {I T : Type 0} {line : Line} {name : List ℕ} {commands : CommandsSeen} {old new : DiskSeen I} {screen : T → Screen} {term : T} {fate : Fate}
@@ -349,7 +348,7 @@ pub over_work : {I T : Type 0} (line : Line) (name : List ℕ) (input : InputSee
     (before between after : T) (fate : Fate) {bytes place : List ℕ} {first history : History} {end : Served}
     → KeepsDisk old mid → input.is_input bytes → place ≡ output_of line name → first ≡ history_over line commands.depth bytes
     → Serves (allowance (bounds_of line (length bytes)) commands.asked) (manner_of line) commands.gave commands.ended (Shows (screen before) (screen between)) first history end
-    → FinishesIn (is_standard_output place) end (present history).output (replaces_input line) (suffix_of line) place mid new screen between after fate
+    → FinishesIn (is_standard_output place) end (present history).output (replaces_input line) (replacing_of line) place mid new screen between after fate
     → Edits line name (run_seen input commands old new screen before after) fate
 over_work line name input commands old mid new screen before between after fate {bytes} {place} {first} {history} {end} kept given named begins serves finishes =
     over_read line name input commands old new screen before after fate kept given
@@ -405,20 +404,20 @@ pub reads_all : {I T : Type 0} {line : Line} {name : List ℕ} {run : RunSeen I 
 reads_all {line} {name} {run} never e is = reads_to line (output_of line name) run (is_standard_output (output_of line name)) never (subst (EndsIn (is_standard_output (output_of line name)) line (output_of line name) run) is e.ends)
 
 -- With an output in a file, from where nothing else was shown.
-pub finishes_in_file : {I T : Type 0} (output name : List ℕ) (in_place : Bool) (suffix : Option (List ℕ)) (before after : DiskSeen I) (screen : T → Screen) (term : T) (fate : Fate) {end : Served}
-    → end ≡ served.Exit → is_standard_output name ≡ false → EndsBy (doings_after served.Exit output (IsTrue in_place) (named_output before after name suffix)) fate
-    → FinishesIn (is_standard_output name) end output in_place suffix name before after screen term term fate
-finishes_in_file output name in_place suffix before after screen term fate exit apart e =
-    subst (λ s. FinishesIn (is_standard_output name) s output in_place suffix name before after screen term term fate) (sym exit)
-    (subst (λ b. FinishesIn b served.Exit output in_place suffix name before after screen term term fate) (sym apart) (e, refl))
+pub finishes_in_file : {I T : Type 0} (output name : List ℕ) (in_place : Bool) (how : Replacing) (before after : DiskSeen I) (screen : T → Screen) (term : T) (fate : Fate) {end : Served}
+    → end ≡ served.Exit → is_standard_output name ≡ false → EndsBy (doings_after served.Exit output (IsTrue in_place) (named_output before after name how)) fate
+    → FinishesIn (is_standard_output name) end output in_place how name before after screen term term fate
+finishes_in_file output name in_place how before after screen term fate exit apart e =
+    subst (λ s. FinishesIn (is_standard_output name) s output in_place how name before after screen term term fate) (sym exit)
+    (subst (λ b. FinishesIn b served.Exit output in_place how name before after screen term term fate) (sym apart) (e, refl))
 
 -- With an output on the terminal.
-pub finishes_on_terminal : {I T : Type 0} (output name : List ℕ) (in_place : Bool) (suffix : Option (List ℕ)) (disk : DiskSeen I) (screen : T → Screen) (old new : T) (fate : Fate) {end : Served}
+pub finishes_on_terminal : {I T : Type 0} (output name : List ℕ) (in_place : Bool) (how : Replacing) (disk : DiskSeen I) (screen : T → Screen) (old new : T) (fate : Fate) {end : Served}
     → end ≡ served.Exit → is_standard_output name ≡ true → EndsBy (doings_after served.Exit output ⊥ (standard_output screen old new)) fate
-    → FinishesIn (is_standard_output name) end output in_place suffix name disk disk screen old new fate
-finishes_on_terminal output name in_place suffix disk screen old new fate exit here e =
-    subst (λ s. FinishesIn (is_standard_output name) s output in_place suffix name disk disk screen old new fate) (sym exit)
-    (subst (λ b. FinishesIn b served.Exit output in_place suffix name disk disk screen old new fate) (sym here) (e, kept_same))
+    → FinishesIn (is_standard_output name) end output in_place how name disk disk screen old new fate
+finishes_on_terminal output name in_place how disk screen old new fate exit here e =
+    subst (λ s. FinishesIn (is_standard_output name) s output in_place how name disk disk screen old new fate) (sym exit)
+    (subst (λ b. FinishesIn b served.Exit output in_place how name disk disk screen old new fate) (sym here) (e, kept_same))
 
 -- The commands were opened on the disk before: a run from there on is one from before.
 module _ {I : Type 0} (old mid new : DiskSeen I) (kept : KeepsDisk old mid) (stream : InputSeen) (name : List ℕ) where
@@ -447,14 +446,14 @@ module _ {I : Type 0} (old mid new : DiskSeen I) (kept : KeepsDisk old mid) (str
   }
 
   in_file_from : (b : Bool) (line : Line) (to : List ℕ) (commands : CommandsSeen) (term : TerminalSeen)
-      → Leads (doings line (input_from b stream (named_input mid new name)) (named_output mid new to (suffix_of line)) commands term) (doings line (input_from b stream (named_input old new name)) (named_output old new to (suffix_of line)) commands term)
+      → Leads (doings line (input_from b stream (named_input mid new name)) (named_output mid new to (replacing_of line)) commands term) (doings line (input_from b stream (named_input old new name)) (named_output old new to (replacing_of line)) commands term)
   in_file_from b line to commands term = record {
     lacks = lacks_from b;
     refuses = λ r. (r.0, irregular_from b r.1);
     idle = λ i. i;
     keeps = keeps_after kept;
     serves = serves_from b line commands term;
-    writes = λ output w. ((λ over. as_read_after kept new to (suffix_of line) output (w.0 over)), writes_after kept w.1);
+    writes = λ output w. ((λ over. as_read_after kept new to (replacing_of line) output (w.0 over)), writes_after kept w.1);
     fails = λ output fate f. fails_after kept f;
     same = λ output h. (h.0, λ before told. h.1 before (kept.files ∙ told));
     changed = λ output h. (h.0, change_after kept h.1);

@@ -5,22 +5,13 @@ use Rattle.teco_cli.specs.Conflict.{are_awaited}
 use Rattle.clap.specs.Words.{Row, first_of}
 use Rattle.teco_cli.specs.Options.{HasLine, IsCommands, SaysCommands, has_sources, option_texts}
 use Rattle.teco_driver.specs.Reporting.{has_notes}
-use Rattle.teco_driver.specs.Given.{EditsBy, EditsByFile, EditsGiven, HostView, IsFeed}
-use Rattle.teco_driver.specs.declared.giving.Feed.{Feed}
-use Rattle.teco_driver.specs.declared.giving.Feed.TheVariants.{Stream, File}
-use Rattle.teco_driver.specs.declared.giving.Feed.TheVariants as feed
-use Rattle.teco_driver.specs.declared.host.Host.{Host}
 use Rattle.teco_cli.specs.declared.line.Commands.{Commands}
 use Rattle.teco_cli.specs.declared.line.Commands.TheVariants.{StandardInput, Sources, Pages, Bytes}
 use Rattle.teco_cli.specs.declared.line.Line.{Line}
-use Rattle.teco_serve.specs.declared.fate.Fate.{Fate}
 use Rattle.teco_cli.specs.CommandLine.{IsLine}
 use Rattle.teco_cli.specs.Words.{IsLineIn, Words}
 use Rattle.teco_driver.specs.Lines.{worse, worst}
-use Rattle.teco_driver.specs.Runs.{Chain, LinkGiven, LinkWanted}
-use Rattle.teco_driver.specs.Sessions.{EditsKeptByFile, EditsKeptGiven, EditsKeptWanted}
-use Rattle.teco_driver.specs.declared.keeping.SessionEnd.{SessionEnd}
-use Rattle.teco_io.specs.Terminal.{Screen}
+use Rattle.teco_driver.specs.Runs.{Chain}
 
 -- One run more, after those in order.
 pub chain_more : {W : Type 0} (link : List ℕ → W → W → ℕ → Type 0) (inputs : List (List ℕ)) (input : List ℕ) (old mid new : W) (statuses : List ℕ) (status : ℕ)
@@ -73,43 +64,3 @@ same_notes (Ok words) line other is same off =
     let awaited = same_awaited _ line other is.given same.given in
     rw (explain, quiet, awaited) off
 same_notes (Err fault) line other is same off = absurd is
-
--- A run by the commands that come from there is one by those of the line, if they do.
-pub as_wanted : {D I S A T : Type 0} (view : HostView D I S T) (line : Line) (input : List ℕ) (commands : Commands) (feed : Feed) (old new : Host S A T D) (fate : Fate)
-    → IsFeed commands feed → EditsGiven view line feed input old new fate → EditsBy view line input commands old new fate
-as_wanted view line input StandardInput Stream old new fate is run = run
-as_wanted view line input StandardInput (File file) old new fate is run = absurd is
-as_wanted view line input StandardInput (feed.Bytes bytes) old new fate is run = absurd is
-as_wanted view line input (Sources names word) feed old new fate is run = absurd is
-as_wanted view line input (Pages word) feed old new fate is run = absurd is
-as_wanted view line input (Bytes name) Stream old new fate is run = rw is run
-as_wanted view line input (Bytes name) (File file) old new fate is run = rw is.0 (subst (λ (name : List ℕ). EditsByFile view line input name old new fate) is.1 run)
-as_wanted view line input (Bytes name) (feed.Bytes bytes) old new fate is run = absurd is
-
--- So is one whose session is kept.
-pub kept_as_wanted : {D I S A T E : Type 0} (view : HostView D I S T) (errors : E → Screen) (line : Line) (input : List ℕ) (commands : Commands) (feed : Feed) (old new : Host S A T D) (told telling : E) (end : SessionEnd)
-    → IsFeed commands feed → EditsKeptGiven view errors line feed input old new told telling end → EditsKeptWanted view errors line commands input old new told telling end
-kept_as_wanted view errors line input StandardInput Stream old new told telling end is run = run
-kept_as_wanted view errors line input StandardInput (File file) old new told telling end is run = absurd is
-kept_as_wanted view errors line input StandardInput (feed.Bytes bytes) old new told telling end is run = absurd is
-kept_as_wanted view errors line input (Sources names word) feed old new told telling end is run = absurd is
-kept_as_wanted view errors line input (Pages word) feed old new told telling end is run = absurd is
-kept_as_wanted view errors line input (Bytes name) Stream old new told telling end is run = rw is run
-kept_as_wanted view errors line input (Bytes name) (File file) old new told telling end is run =
-    rw is.0 (subst (λ (name : List ℕ). EditsKeptByFile view errors line input name old new told telling end) is.1 run)
-kept_as_wanted view errors line input (Bytes name) (feed.Bytes bytes) old new told telling end is run = absurd is
-
--- one of two, by a flag
-abbrev either_of : Bool → Type 0 → Type 0 → Type 0
-either_of b A B = elim b [ false ↦ A | true ↦ B ]
-
-by_flag : (b : Bool) (A B C D : Type 0) → (A → C) → (B → D) → either_of b A B → either_of b C D
-by_flag true A B C D f g x = g x
-by_flag false A B C D f g x = f x
-
-pub link_wanted : {D I S A T E : Type 0} (view : HostView D I S T) (errors : E → Screen) (line : Line) (input : List ℕ) (feed : Feed) (old new : Host S A T D × E) (status : ℕ)
-    → IsFeed line.commands feed → LinkGiven view errors line feed input old new status → LinkWanted view errors line input old new status
-link_wanted view errors line input feed old new status is link = by_flag (is_some line.session) _ _ _ _
-    (λ l. record { fate = l.fate; run = as_wanted view line input line.commands feed old.0 new.0 l.fate is l.run; end = l.end })
-    (λ l. record { between = l.between; end = l.end; run = kept_as_wanted view errors line input line.commands feed old.0 new.0 old.1 l.between l.end is l.run; concludes = l.concludes })
-    link

@@ -1,20 +1,15 @@
 -- A run over an input whose session is kept, from what its parts have done.
-use Rattle.teco_io.specs.declared.source.Source.{Ghosts as SourceView}
-use Rattle.std.proofs.Common.{◌≡◌, ◌⊎◌, ◌∙◌, inl, inr, ℕ, List, Bool, true, false, refl, sym, subst, ap, Result, Ok, Err, String, Global, codes, IfErr, IfOk, OnErr}
+use Rattle.std.proofs.Common.{◌≡◌, inl, inr, ℕ, List, Bool, true, false, subst, Result, Ok, Err, String, Global, codes, IfErr, IfOk, OnErr}
 use Rattle.std.specs.String.{string_bytes}
 use Rattle.teco_cli.specs.StreamNames.{is_standard_input, is_standard_output}
-use Rattle.teco_cli.specs.Options.{suffix_of}
 use Rattle.teco_cli.specs.declared.line.Line.{Line}
 use Rattle.teco_driver.specs.Given.{HostView}
+use Rattle.teco_driver.specs.Backups.{replacing_of}
 use Rattle.teco_driver.specs.Run.{FinishesIn, bounds_of, input_from, manner_of, named_input, replaces_input, standard_input}
 use Rattle.teco_driver.specs.Seen.{CommandsSeen, InputSeen}
 use Rattle.teco_driver.specs.SessionLines.{TellsOrLacks}
-use Rattle.teco_driver.specs.Sessions.{EditsKept, FinishesKept, HasNoInput, OpensOver, RunsKept, RunsSession, StaysShut, StaysUnserved, as_state}
-use Rattle.teco_driver.specs.Runs.{with_disk}
+use Rattle.teco_driver.specs.Sessions.{FinishesKept, OpensOver, RunsSession, as_state}
 use Rattle.teco_driver.specs.declared.host.Host.{Host}
-use Rattle.teco_driver.proofs.Doings.{irregular_from, is_input_from, keeps_after, lacks_from}
-use Rattle.teco_fs.specs.Seen.{KeepsDisk}
-use Rattle.teco_serve.specs.declared.fate.Fate.{Fate}
 use Rattle.teco_driver.specs.declared.keeping.SessionEnd.{SessionEnd}
 use Rattle.teco_driver.specs.declared.keeping.SessionEnd.TheVariants.{Closed, Ended, Broken}
 use Rattle.teco_fs.specs.Refusing.{Tells}
@@ -194,7 +189,7 @@ module _ {D I S A T E : Type 0} (view : HostView D I S T) (errors : E → Screen
     ended = ended;
     serves = serves;
     recorded = subst (λ (b : Bool). IsRecorded (recording (as_state (view.disk opened)) is.file false) (recording (as_state (view.disk served)) left b) is.history last) finishes.0 recorded;
-    finishes = subst (λ (place : List ℕ). FinishesIn (is_standard_output place) ended (present last).output (replaces_input line) (suffix_of line) place (view.disk served) (view.disk new.disk) view.screen term new.terminal end) named finishes.1;
+    finishes = subst (λ (place : List ℕ). FinishesIn (is_standard_output place) ended (present last).output (replaces_input line) (replacing_of line) place (view.disk served) (view.disk new.disk) view.screen term new.terminal end) named finishes.1;
   }
   runs_session given old new told telling opened served term length_read is left last ended is_broken to (Broken reason end) opens serves recorded named finishes = record {
     opened = opened;
@@ -208,77 +203,5 @@ module _ {D I S A T E : Type 0} (view : HostView D I S T) (errors : E → Screen
     ended = ended;
     serves = serves;
     recorded = subst (λ (b : Bool). IsRecorded (recording (as_state (view.disk opened)) is.file false) (recording (as_state (view.disk served)) left b) is.history last) finishes.0 recorded;
-    finishes = subst (λ (place : List ℕ). FinishesIn (is_standard_output place) ended (present last).output (replaces_input line) (suffix_of line) place (view.disk served) (view.disk new.disk) view.screen term new.terminal end) named finishes.1;
+    finishes = subst (λ (place : List ℕ). FinishesIn (is_standard_output place) ended (present last).output (replaces_input line) (replacing_of line) place (view.disk served) (view.disk new.disk) view.screen term new.terminal end) named finishes.1;
   }
-
--- The commands were opened on the disk before: a run from there on is one from before.
-module _ {D I S A T E : Type 0} (view : HostView D I S T) (errors : E → Screen) (line : Line) (name : List ℕ) (old : Host S A T D) (mid : D)
-    (kept : KeepsDisk (view.disk old.disk) (view.disk mid)) where
-  input_from_mid : (commands : S) (disk : D) (bytes : List ℕ)
-      → (input_from (is_standard_input name) (standard_input view.stream old.commands commands) (named_input (view.disk mid) (view.disk disk) name)).is_input bytes
-      → (input_from (is_standard_input name) (standard_input view.stream old.commands commands) (named_input (view.disk old.disk) (view.disk disk) name)).is_input bytes
-  input_from_mid commands disk bytes is =
-      is_input_from (view.disk old.disk) (view.disk mid) (view.disk disk) kept (standard_input view.stream old.commands commands) name (is_standard_input name) bytes is
-
-  unserved_from : (new : Host S A T D) (told telling : E) (end : SessionEnd) → StaysUnserved view errors line name (with_disk old mid) new told telling end
-      → StaysUnserved view errors line name old new told telling end
-  unserved_from new told telling (Closed fault) s = record {
-    read = s.read;
-    input = s.input;
-    keeps = keeps_after kept s.keeps;
-    input_is = input_from_mid new.commands s.read s.input s.input_is;
-    closed = s.closed;
-    tells = s.tells;
-    still = s.still;
-  }
-  unserved_from new told telling (Ended end) (s, untold) = (
-    record {
-      lacks = elim s.lacks [
-        | inl lacks ↦ inl (elim lacks [
-          | inl l ↦ inl (lacks_from (view.disk old.disk) (view.disk mid) (view.disk new.disk) kept (standard_input view.stream old.commands new.commands) name (is_standard_input name) end l)
-          | inr l ↦ inr (l.0, l.1, irregular_from (view.disk old.disk) (view.disk mid) (view.disk new.disk) kept (standard_input view.stream old.commands new.commands) name (is_standard_input name) l.2)
-        ])
-        | inr memory ↦ inr memory
-      ];
-      idle = (s.idle.0, keeps_after kept s.idle.1);
-    },
-    untold,
-  )
-  unserved_from new told telling (Broken reason end) s = absurd s
-
-  kept_from : (given : CommandsSeen) (new : Host S A T D) (told telling : E) (is_broken : Bool) (end : Fate)
-      → RunsKept view errors line name given (with_disk old mid) new told telling is_broken end → RunsKept view errors line name given old new told telling is_broken end
-  kept_from given new told telling is_broken end r = record {
-    opened = r.opened;
-    length_read = r.length_read;
-    is = r.is;
-    opens = record {
-      read = r.opens.read;
-      input = r.opens.input;
-      keeps = keeps_after kept r.opens.keeps;
-      input_is = input_from_mid new.commands r.opens.read r.opens.input r.opens.input_is;
-      length_is = r.opens.length_is;
-      between = r.opens.between;
-      opens = r.opens.opens;
-      tells = r.opens.tells;
-    };
-    served = r.served;
-    term = r.term;
-    left = r.left;
-    last = r.last;
-    ended = r.ended;
-    serves = r.serves;
-    recorded = r.recorded;
-    finishes = r.finishes;
-  }
-
-  runs_from : (given : CommandsSeen) (new : Host S A T D) (told telling : E) (end : SessionEnd)
-      → RunsSession view errors line name given (with_disk old mid) new told telling end → RunsSession view errors line name given old new told telling end
-  runs_from given new told telling (Closed fault) r = absurd r
-  runs_from given new told telling (Ended end) r = kept_from given new told telling false end r
-  runs_from given new told telling (Broken reason end) r = kept_from given new told telling true end r
-
-  pub edits_kept_from : (given : CommandsSeen) (new : Host S A T D) (told telling : E) (end : SessionEnd)
-      → EditsKept view errors line name given (with_disk old mid) new told telling end → EditsKept view errors line name given old new told telling end
-  edits_kept_from given new told telling end (inl s) = inl (unserved_from new told telling end s.0, s.1)
-  edits_kept_from given new told telling end (inr r) = inr (runs_from given new told telling end r)

@@ -7,7 +7,6 @@ use Rattle.teco_lint.specs.Calls.{AreCalled, AreCalledOver}
 use Rattle.teco_lint.specs.Right.{AreRight}
 use Rattle.teco_lint.specs.Spelling.{is_misspelt, is_misspelt_text}
 use Rattle.teco_lint.specs.Strings.{has_fault, is_faulty}
-use Rattle.teco_driver.specs.Given.{come_as_wanted}
 use Rattle.teco_cli.specs.declared.line.Commands.{Commands}
 use Rattle.teco_cli.specs.declared.line.Commands.TheVariants.{StandardInput, Sources, Pages, Bytes}
 use Rattle.teco_cli.specs.declared.line.Line.{Line}
@@ -92,13 +91,20 @@ TellsVerdict screen errors line bytes old new told telling status =
     ⊎ (LacksVerdict errors old new told telling status
     ⊎ LosesVerdict screen errors old new told telling status)
 
+-- These commands are bytes as they are, of standard input or a file. They may be a record, which has each slip that was made.
+abbrev pub are_bytes : Commands → Bool
+are_bytes StandardInput = true
+are_bytes (Sources names word) = false
+are_bytes (Pages word) = false
+are_bytes (Bytes name) = true
+
 -- Commands of sources are looked at before they run, with the texts that the line puts where code is. They may, if none is misspelt.
 abbrev pub MayRun : Line → List ℕ → Type 0
-MayRun line bytes = come_as_wanted line.commands ≡ false → SaysMisspelt line bytes false
+MayRun line bytes = are_bytes line.commands ≡ false → SaysMisspelt line bytes false
 
 -- A string of them is misspelt, or such a text: lines that say so are told on standard error, and the status is 3. Or memory is refused
 -- to the look, and that is told.
 abbrev pub AreRejected : Line → List ℕ → Screen → Screen → ℕ → Type 0
-AreRejected line bytes old new status = (come_as_wanted line.commands ≡ false)
+AreRejected line bytes old new status = (are_bytes line.commands ≡ false)
     × (((status ≡ 3) × SaysMisspelt line bytes true × ((lines : List ℕ) × Tells old new lines))
     ⊎ ((status ≡ 1) × Tells old new (said (codes "no memory"))))

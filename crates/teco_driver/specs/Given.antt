@@ -2,10 +2,8 @@
 use Rattle.teco_io.specs.declared.source.Source.{Ghosts as SourceView}
 use Rattle.teco_driver.specs.declared.word_source.WordSource.{WordSource}
 use Rattle.teco_driver.specs.contracts.word_source.WordSourceSource.TheImpl as word
-use Rattle.std.specs.Prelude.{◌≡◌, ◌≢◌, ◌⊎◌, ◌&&◌, not, ℕ, List, Some, Bool, true, false, ⊤}
+use Rattle.std.specs.Prelude.{◌≡◌, ◌≢◌, ◌&&◌, not, ℕ, List, Some, Bool, true, false}
 use Rattle.std.specs.String.{string_bytes}
-use Rattle.std.specs.declared.io.Error.{Error}
-use Rattle.teco_fs.specs.Disk.{Opens}
 use Rattle.teco_io.specs.Terminal.{Screen}
 use Rattle.teco_cli.specs.Conflict.{has_more}
 use Rattle.teco_cli.specs.StreamNames.{is_standard_input}
@@ -13,15 +11,14 @@ use Rattle.teco_cli.specs.declared.line.Commands.{Commands}
 use Rattle.teco_cli.specs.declared.line.Commands.TheVariants.{StandardInput, Sources, Pages, Bytes}
 use Rattle.teco_cli.specs.declared.line.Line.{Line}
 use Rattle.teco_driver.specs.Run.{Edits, depth_of, input_from, named_input, standard_input}
-use Rattle.teco_fs.specs.Reasons.{ComesTo}
 use Rattle.teco_fs.specs.Seen.{DiskSeen, KeepsDisk, KeepsStream}
 use Rattle.teco_driver.specs.declared.giving.Feed.{Feed}
-use Rattle.teco_driver.specs.declared.giving.Feed.TheVariants.{Stream, File}
+use Rattle.teco_driver.specs.declared.giving.Feed.TheVariants.{Stream}
 use Rattle.teco_driver.specs.declared.giving.Feed.TheVariants as feed
 use Rattle.teco_driver.specs.declared.host.Host.{Host}
 use Rattle.teco_driver.specs.Seen.{CommandsSeen, commands_seen, run_seen}
 use Rattle.teco_serve.specs.declared.fate.Fate.{Fate}
-use Rattle.teco_serve.specs.declared.fate.Fate.TheVariants.{NoCommands, NoMemory, Ended}
+use Rattle.teco_serve.specs.declared.fate.Fate.TheVariants.{Ended}
 use Rattle.teco_serve.specs.declared.served.Served.TheVariants as served
 
 -- how a source over the bytes of a word is seen
@@ -68,58 +65,25 @@ pub record EditsByBytes {D I S A T : Type 0} (view : HostView D I S T) (line : L
   pub edits : EditsInput view line input (commands_seen word_seen first last view.asked (depth_of line bytes)) old new fate
   pub reads : fate ≢ Ended served.ReadFault
 
--- By the commands of a file: nothing is done if the disk refuses to open it, and the fate has the reason; else the run is over
--- what it opened.
-pub record EditsByFile {D I S A T : Type 0} (view : HostView D I S T) (line : Line) (input name : List ℕ)
-    (old new : Host S A T D) (fate : Fate) : Type 0 where
-  pub kept : KeepsStream input old.commands new.commands
-  pub edits : ((error : Error) × (view.disk new.disk).gave error
-      × ComesTo error NoMemory NoCommands fate
-      × IsIdle view old new)
-      ⊎ ((first : I) × (last : I) × Opens (view.disk old.disk).files name ((view.disk old.disk).input.coming first)
-      × EditsInput view line input (commands_seen (view.disk old.disk).input first last view.asked line.undo) old new fate)
-
 -- By the commands of standard input, which come as they are wanted.
 abbrev pub EditsByStream : {D I S A T : Type 0} → HostView D I S T → Line → List ℕ → Host S A T D → Host S A T D → Fate
     → Type 0
 EditsByStream view line input old new fate =
     EditsInput view line input (commands_seen view.stream old.commands new.commands view.asked line.undo) old new fate
 
--- A file of commands that has a name of standard input is that.
-abbrev pub EditsByNamed : {D I S A T : Type 0} → Bool → HostView D I S T → Line → List ℕ → List ℕ → Host S A T D
-    → Host S A T D → Fate → Type 0
-EditsByNamed true view line input name old new fate = EditsByStream view line input old new fate
-EditsByNamed false view line input name old new fate = EditsByFile view line input name old new fate
-
--- These commands come as they are wanted: from standard input, or from a file as they are.
-abbrev pub EditsBy : {D I S A T : Type 0} → HostView D I S T → Line → List ℕ → Commands → Host S A T D → Host S A T D
-    → Fate → Type 0
-EditsBy view line input StandardInput old new fate = EditsByStream view line input old new fate
-EditsBy view line input (Sources names word) old new fate = ⊥
-EditsBy view line input (Pages word) old new fate = ⊥
-EditsBy view line input (Bytes name) old new fate =
-    EditsByNamed (is_standard_input (string_bytes name)) view line input (string_bytes name) old new fate
-
+-- These commands come on standard input as they are wanted: no option gives them, or a name of it does.
 abbrev pub come_as_wanted : Commands → Bool
 come_as_wanted StandardInput = true
 come_as_wanted (Sources names word) = false
 come_as_wanted (Pages word) = false
-come_as_wanted (Bytes name) = true
+come_as_wanted (Bytes name) = is_standard_input (string_bytes name)
 
--- The commands of the line are served to one input as they come. Else they are had at once, before any input is read.
+-- The commands of the line are served to one input as they come. Else they are had whole, before any input is read.
 abbrev pub is_streamed : Line → Bool
 is_streamed line = come_as_wanted line.commands && not (has_more line)
-
--- These commands come from there, as they are wanted.
-abbrev pub IsFeed : Commands → Feed → Type 0
-IsFeed StandardInput Stream = ⊤
-IsFeed (Bytes name) Stream = is_standard_input (string_bytes name) ≡ true
-IsFeed (Bytes name) (File file) = (is_standard_input (string_bytes name) ≡ false) × (file.now ≡ string_bytes name)
-IsFeed _ _ = ⊥
 
 -- A run over this input by the commands that come from there.
 abbrev pub EditsGiven : {D I S A T : Type 0} → HostView D I S T → Line → Feed → List ℕ → Host S A T D → Host S A T D → Fate
     → Type 0
 EditsGiven view line Stream input old new fate = EditsByStream view line input old new fate
-EditsGiven view line (File file) input old new fate = EditsByFile view line input file.now old new fate
 EditsGiven view line (feed.Bytes bytes) input old new fate = EditsByBytes view line input bytes.now old new fate

@@ -5,7 +5,6 @@ use Rattle.std.specs.Str.{bytes_eq}
 use Rattle.std.specs.String.{string_bytes}
 use Rattle.teco_io.specs.Terminal.{IsFrontOf, Screen, Shows}
 use Rattle.teco_cli.specs.Conflict.{are_awaited}
-use Rattle.teco_cli.specs.Options.{suffix_of}
 use Rattle.teco_cli.specs.StreamNames.{is_standard_output}
 use Rattle.std.specs.declared.io.Error.{Error}
 use Rattle.teco_core.specs.declared.limits.TheConstants.{FILE_LIMIT}
@@ -20,7 +19,7 @@ use Rattle.teco_fs.specs.Refusing.{Tells}
 use Rattle.teco_serve.specs.Exchange.{allowance}
 use Rattle.teco_serve.specs.Serving.{Serves}
 use Rattle.teco_driver.specs.Paging.{is_on_pages, page_lines_of}
-use Rattle.teco_driver.specs.Backups.{FailsToKeep, LeavesOver, WritesOver}
+use Rattle.teco_driver.specs.Backups.{FailsToKeep, LeavesOver, Replacing, WritesOver, replacing_of}
 use Rattle.teco_driver.specs.Seen.{CommandsSeen, InputSeen, OutputSeen, RunSeen}
 use Rattle.teco_fs.specs.Console.{TerminalSeen, terminal_seen}
 use Rattle.teco_fs.specs.Reading.{IsInput, IsStreamed}
@@ -63,17 +62,17 @@ LacksInput old new name fate = FailsToOpen new.gave fate ⊎ FailsToRead new.inp
 
 -- The output file is as it was; and at each moment it was so, or had these bytes. The fate is that of the
 -- error, and has its reason.
-pub record FailsToWrite {I : Type 0} (old new : DiskSeen I) (name : List ℕ) (suffix : Option (List ℕ)) (bytes : List ℕ) (fate : Fate)
+pub record FailsToWrite {I : Type 0} (old new : DiskSeen I) (name : List ℕ) (how : Replacing) (bytes : List ℕ) (fate : Fate)
     : Type 0 where
-  pub leaves : LeavesOver old new name suffix bytes
+  pub leaves : LeavesOver old new name how bytes
   pub error : Error
   pub given : IsWriteError new.gave error
   pub fate_is : ComesTo error NoMemory NoOutput fate
 
 -- The file has changed since it was read. It is as it was before the writing, and at each moment it was so.
-pub record FindsChange {I : Type 0} (old new : DiskSeen I) (name : List ℕ) (suffix : Option (List ℕ)) (bytes : List ℕ) : Type 0 where
+pub record FindsChange {I : Type 0} (old new : DiskSeen I) (name : List ℕ) (how : Replacing) (bytes : List ℕ) : Type 0 where
   pub changed : new.changed name
-  pub leaves : LeavesOver old new name suffix bytes
+  pub leaves : LeavesOver old new name how bytes
 
 -- The output goes over the file that is read: by --in-place, or by the name of --output.
 abbrev pub replaces_input : Line → Bool
@@ -215,14 +214,14 @@ named_input old new name = record {
   is_input = IsInput old.files name;
 }
 
-abbrev pub named_output : {I : Type 0} → DiskSeen I → DiskSeen I → List ℕ → Option (List ℕ) → OutputSeen
-named_output old new name suffix = record {
+abbrev pub named_output : {I : Type 0} → DiskSeen I → DiskSeen I → List ℕ → Replacing → OutputSeen
+named_output old new name how = record {
   keeps = KeepsDisk old new;
-  writes = WritesOver old new name suffix;
-  fails = λ bytes fate. FailsToWrite old new name suffix bytes fate ⊎ FailsToKeep old new name suffix fate;
+  writes = WritesOver old new name how;
+  fails = λ bytes fate. FailsToWrite old new name how bytes fate ⊎ FailsToKeep old new name how.suffix fate;
   has = λ bytes. (before : Files) → old.files ≡ Some before → before name ≡ Some bytes;
   is_as_read = λ bytes. new.asked name old.files (λ before now. old.streams name ≡ None → HasDraft name bytes before now);
-  changed = FindsChange old new name suffix;
+  changed = FindsChange old new name how;
   unkept = new.unkept;
 }
 
@@ -273,7 +272,7 @@ standard_output screen between new = record {
 -- A run ends so, with its output in the file of this name, or on the terminal; then no file changes.
 abbrev pub EndsInFile : {I T : Type 0} → Line → List ℕ → RunSeen I T → Fate → Type 0
 EndsInFile line name run fate = EndsBy
-    (doings line run.input (named_output run.before run.after name (suffix_of line)) run.commands
+    (doings line run.input (named_output run.before run.after name (replacing_of line)) run.commands
     (terminal_seen run.screen run.old run.new)) fate
 
 pub record EndsOnTerminal {I T : Type 0} (line : Line) (run : RunSeen I T) (fate : Fate) : Type 0 where
@@ -287,12 +286,12 @@ EndsIn true line name run fate = EndsOnTerminal line run fate
 EndsIn false line name run fate = EndsInFile line name run fate
 
 -- After a serving a run ends so, with its output on the terminal, or in the file of this name.
-abbrev pub FinishesIn : {I T : Type 0} → Bool → Served → List ℕ → Bool → Option (List ℕ) → List ℕ → DiskSeen I → DiskSeen I
+abbrev pub FinishesIn : {I T : Type 0} → Bool → Served → List ℕ → Bool → Replacing → List ℕ → DiskSeen I → DiskSeen I
     → (T → Screen) → T → T → Fate → Type 0
-FinishesIn true served output over suffix name before after screen old new fate =
+FinishesIn true served output over how name before after screen old new fate =
     EndsBy (doings_after served output ⊥ (standard_output screen old new)) fate × KeepsDisk before after
-FinishesIn false served output over suffix name before after screen old new fate =
-    EndsBy (doings_after served output (IsTrue over) (named_output before after name suffix)) fate × (new ≡ old)
+FinishesIn false served output over how name before after screen old new fate =
+    EndsBy (doings_after served output (IsTrue over) (named_output before after name how)) fate × (new ≡ old)
 
 -- A run of the program over this input of its line ends so.
 pub record Edits {I T : Type 0} (line : Line) (input : List ℕ) (run : RunSeen I T) (fate : Fate) : Type 0 where

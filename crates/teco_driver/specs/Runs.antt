@@ -11,11 +11,12 @@ use Rattle.teco_driver.specs.Checks.{AreRejected, MayRun, TellsVerdict}
 use Rattle.teco_driver.specs.Library.{FindsFiles}
 use Rattle.teco_driver.specs.Lines.{worst}
 use Rattle.teco_driver.specs.declared.giving.Feed.{Feed}
+use Rattle.teco_driver.specs.declared.giving.Feed.TheVariants.{Stream}
 use Rattle.teco_driver.specs.declared.host.Host.{Host}
 use Rattle.teco_driver.specs.declared.keeping.SessionEnd.{SessionEnd}
 use Rattle.teco_driver.specs.Run.{Concludes}
-use Rattle.teco_driver.specs.Sessions.{EditsKeptByBytes, EditsKeptGiven, EditsKeptWanted, LinkKept}
-use Rattle.teco_driver.specs.Given.{EditsBy, EditsByBytes, EditsGiven, HostView, IsIdle, is_streamed}
+use Rattle.teco_driver.specs.Sessions.{EditsKeptByBytes, EditsKeptGiven, LinkKept}
+use Rattle.teco_driver.specs.Given.{EditsByBytes, EditsGiven, HostView, IsIdle, is_streamed}
 use Rattle.teco_fs.specs.Console.{console}
 use Rattle.teco_fs.specs.Refusing.{Refuses, Tells}
 use Rattle.teco_fs.specs.Seen.{DiskSeen, KeepsDisk}
@@ -64,17 +65,11 @@ abbrev pub LinkGiven : {D I S A T E : Type 0} → HostView D I S T → (E → Sc
 LinkGiven view errors line feed = LinkBy (λ input old new fate. EditsGiven view line feed input old new fate)
     (λ input old new told telling end. EditsKeptGiven view errors line feed input old new told telling end) errors line
 
--- A run over an input by these commands, which come as they are wanted, and it is told.
-abbrev pub LinkWanted : {D I S A T E : Type 0} → HostView D I S T → (E → Screen) → Line → List ℕ
-    → Host S A T D × E → Host S A T D × E → ℕ → Type 0
-LinkWanted view errors line = LinkBy (λ input old new fate. EditsBy view line input line.commands old new fate)
-    (λ input old new told telling end. EditsKeptWanted view errors line line.commands input old new told telling end) errors line
-
--- A line of one input, whose commands come as they are wanted: it is run over, and that is told.
+-- A line of one input, whose commands come on standard input as they are wanted: it is run over, and that is told.
 pub record RunsOverOne {D I S A T E : Type 0} (view : HostView D I S T) (errors : E → Screen) (line : Line)
     (old new : Host S A T D) (told telling : E) (status : ℕ) : Type 0 where
   pub streamed : is_streamed line ≡ true
-  pub run : LinkWanted view errors line (string_bytes line.input) (old, told) (new, telling) status
+  pub run : LinkGiven view errors line Stream (string_bytes line.input) (old, told) (new, telling) status
 
 -- Each of these inputs is run over in order, by these bytes as commands, and that is told. The status is the worst.
 pub record RunsInOrder {D I S A T E : Type 0} (view : HostView D I S T) (errors : E → Screen) (line : Line)

@@ -1,26 +1,20 @@
 -- A run over an input of the line whose session is kept in a file.
 use Rattle.teco_driver.specs.declared.word_source.WordSource.{WordSource}
 use Rattle.std.specs.Prelude.{◌≡◌, ◌⊎◌, ℕ, List, length, Bool, true, false, Some}
-use Rattle.std.specs.String.{string_bytes}
-use Rattle.std.specs.declared.io.Error.{Error}
-use Rattle.teco_cli.specs.Options.{suffix_of}
 use Rattle.teco_cli.specs.StreamNames.{is_standard_input, is_standard_output}
-use Rattle.teco_cli.specs.declared.line.Commands.{Commands}
-use Rattle.teco_cli.specs.declared.line.Commands.TheVariants.{StandardInput, Sources, Pages, Bytes}
 use Rattle.teco_cli.specs.declared.line.Line.{Line}
 use Rattle.teco_driver.specs.Given.{HostView, IsIdle, word_seen}
 use Rattle.teco_driver.specs.Paging.{page_lines_of}
+use Rattle.teco_driver.specs.Backups.{replacing_of}
 use Rattle.teco_driver.specs.Run.{Concludes, FinishesIn, Lacks, bounds_of, input_from, manner_of, named_input, replaces_input, standard_input}
 use Rattle.teco_driver.specs.Seen.{CommandsSeen, InputSeen, commands_seen}
 use Rattle.teco_driver.specs.SessionLines.{TellsOrLacks, again_words, fault_line, opening_lines, session_name, not_kept_line}
 use Rattle.teco_driver.specs.declared.giving.Feed.{Feed}
-use Rattle.teco_driver.specs.declared.giving.Feed.TheVariants.{Stream, File}
+use Rattle.teco_driver.specs.declared.giving.Feed.TheVariants.{Stream}
 use Rattle.teco_driver.specs.declared.giving.Feed.TheVariants as feed
 use Rattle.teco_driver.specs.declared.host.Host.{Host}
 use Rattle.teco_driver.specs.declared.keeping.SessionEnd.{SessionEnd}
 use Rattle.teco_driver.specs.declared.keeping.SessionEnd.TheVariants.{Closed, Ended, Broken}
-use Rattle.teco_fs.specs.Disk.{Opens as OpensFile}
-use Rattle.teco_fs.specs.Reasons.{ComesTo}
 use Rattle.teco_fs.specs.Seen.{DiskSeen, KeepsDisk, KeepsStream}
 use Rattle.teco_fs.specs.State.{DiskState}
 use Rattle.teco_io.specs.Terminal.{Screen, Shows}
@@ -124,7 +118,7 @@ pub record RunsKept {D I S A T E : Type 0} (view : HostView D I S T) (errors : E
       (Shows (view.screen old.terminal) (view.screen term)) is.history last ended
   pub recorded : IsRecorded (recording (as_state (view.disk opened)) is.file false) (recording (as_state (view.disk served)) left is_broken)
       is.history last
-  pub finishes : FinishesIn (is_standard_output (output_of line name)) ended (present last).output (replaces_input line) (suffix_of line)
+  pub finishes : FinishesIn (is_standard_output (output_of line name)) ended (present last).output (replaces_input line) (replacing_of line)
       (output_of line name) (view.disk served) (view.disk new.disk) view.screen term new.terminal end
 
 -- After a serving the output was written, and the run ended so: as broken, if a line of its session could not be written.
@@ -132,9 +126,9 @@ abbrev pub FinishesKept : {I T : Type 0} → Line → List ℕ → Served → Li
     → Type 0
 FinishesKept line to served output is_broken before after screen old new (Closed fault) = ⊥
 FinishesKept line to served output is_broken before after screen old new (Ended end) = (is_broken ≡ false)
-    × FinishesIn (is_standard_output to) served output (replaces_input line) (suffix_of line) to before after screen old new end
+    × FinishesIn (is_standard_output to) served output (replaces_input line) (replacing_of line) to before after screen old new end
 FinishesKept line to served output is_broken before after screen old new (Broken reason end) = (is_broken ≡ true)
-    × FinishesIn (is_standard_output to) served output (replaces_input line) (suffix_of line) to before after screen old new end
+    × FinishesIn (is_standard_output to) served output (replaces_input line) (replacing_of line) to before after screen old new end
 
 -- It has run so, by how it ended.
 abbrev pub RunsSession : {D I S A T E : Type 0} → HostView D I S T → (E → Screen) → Line → List ℕ → CommandsSeen → Host S A T D → Host S A T D
@@ -150,16 +144,6 @@ abbrev pub EditsKept : {D I S A T E : Type 0} → HostView D I S T → (E → Sc
 EditsKept view errors line name given old new told telling end =
     (StaysUnserved view errors line name old new told telling end × given.still)
     ⊎ RunsSession view errors line name given old new told telling end
-
--- By the commands of a file: nothing is done if the disk refuses to open it.
-pub record EditsKeptByFile {D I S A T E : Type 0} (view : HostView D I S T) (errors : E → Screen) (line : Line) (name file : List ℕ)
-    (old new : Host S A T D) (told telling : E) (end : SessionEnd) : Type 0 where
-  pub kept : KeepsStream name old.commands new.commands
-  pub keeps : ((error : Error) × (view.disk new.disk).gave error
-      × ((why : Fate) × (end ≡ Ended why) × ComesTo error fate.NoMemory fate.NoCommands why)
-      × IsIdle view old new × (telling ≡ told))
-      ⊎ ((first : I) × (last : I) × OpensFile (view.disk old.disk).files file ((view.disk old.disk).input.coming first)
-      × EditsKept view errors line name (commands_seen (view.disk old.disk).input first last view.asked line.undo) old new told telling end)
 
 -- By commands in memory.
 pub record EditsKeptByBytes {D I S A T E : Type 0} (view : HostView D I S T) (errors : E → Screen) (line : Line) (name bytes : List ℕ)
@@ -180,24 +164,8 @@ EditsKeptByStream view errors line name old new told telling end =
 abbrev pub EditsKeptGiven : {D I S A T E : Type 0} → HostView D I S T → (E → Screen) → Line → Feed → List ℕ → Host S A T D → Host S A T D → E → E
     → SessionEnd → Type 0
 EditsKeptGiven view errors line Stream name old new told telling end = EditsKeptByStream view errors line name old new told telling end
-EditsKeptGiven view errors line (File file) name old new told telling end = EditsKeptByFile view errors line name file.now old new told telling end
 EditsKeptGiven view errors line (feed.Bytes bytes) name old new told telling end =
     EditsKeptByBytes view errors line name bytes.now old new told telling end
-
--- A file of commands that has a name of standard input is that.
-abbrev pub EditsKeptByNamed : {D I S A T E : Type 0} → Bool → HostView D I S T → (E → Screen) → Line → List ℕ → List ℕ → Host S A T D
-    → Host S A T D → E → E → SessionEnd → Type 0
-EditsKeptByNamed true view errors line name file old new told telling end = EditsKeptByStream view errors line name old new told telling end
-EditsKeptByNamed false view errors line name file old new told telling end = EditsKeptByFile view errors line name file old new told telling end
-
--- By these commands, which come as they are wanted.
-abbrev pub EditsKeptWanted : {D I S A T E : Type 0} → HostView D I S T → (E → Screen) → Line → Commands → List ℕ → Host S A T D → Host S A T D
-    → E → E → SessionEnd → Type 0
-EditsKeptWanted view errors line StandardInput name old new told telling end = EditsKeptByStream view errors line name old new told telling end
-EditsKeptWanted view errors line (Sources names word) name old new told telling end = ⊥
-EditsKeptWanted view errors line (Pages word) name old new told telling end = ⊥
-EditsKeptWanted view errors line (Bytes file) name old new told telling end =
-    EditsKeptByNamed (is_standard_input (string_bytes file)) view errors line name (string_bytes file) old new told telling end
 
 -- How it ended is told. If its session is not whole, the status is 1.
 abbrev pub ConcludesKept : Line → List ℕ → SessionEnd → Screen → Screen → ℕ → Type 0

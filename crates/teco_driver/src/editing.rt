@@ -4,20 +4,19 @@ ghost use Rattle.std.specs.Option.{ForSome};
 ghost use Rattle.std.specs.String.{string_bytes};
 ghost use Rattle.teco_core.specs.declared.limits.TheConstants.{DEPTH_LIMIT, FILE_LIMIT};
 ghost use Rattle.teco_cli.specs.CommandLine.{IsDepth};
-ghost use Rattle.teco_cli.specs.Options.{suffix_of};
 ghost use Rattle.teco_cli.specs.Values.{text_behind};
 ghost use Rattle.teco_cli.specs.Conflict.{are_awaited};
 ghost use Rattle.teco_cli.specs.StreamNames.{is_standard_input, is_standard_output};
 ghost use Rattle.teco_serve.specs.Exchange.{HasRung};
 ghost use Rattle.teco_serve.specs.Ending.{output_of};
 ghost use Rattle.teco_session.specs.History.{present};
-ghost use Rattle.teco_driver.specs.Backups.{FailsToKeep, KeepsOld};
+ghost use Rattle.teco_driver.specs.Backups.{FailsToKeep, KeepsOld, replacing, replacing_of};
 ghost use Rattle.teco_driver.specs.Run.{EndsBy, FinishesIn, bounds_of, depth_of, doings_after, history_over, limit_of, manner_of, named_output, replaces_input, standard_output, wants_history};
 ghost use Rattle.teco_driver.specs.Given.{EditsByStream, EditsInput, host_view};
 ghost use Rattle.teco_fs.specs.Seen.{KeepsStream, disk_seen};
 ghost use Rattle.teco_driver.specs.Seen.{commands_seen};
-ghost use Rattle.teco_fs.specs.Writing.{both};
 ghost use Rattle.teco_session.specs.Kept.{history_of};
+ghost use Rattle.teco_store.specs.Slices.{bytes_in};
 
 use crate::fates::{fate_written, no_backup, no_output};
 use crate::host::Host;
@@ -28,12 +27,12 @@ use std::alloc::Global;
 use std::mem::ManuallyDrop;
 use teco_cli::{Commands, Line, is_standard_output, suffix_of};
 use teco_core::NoMemory;
-use teco_fs::{Disk, Reason, Written, has_bytes, keep_file, write_output};
+use teco_fs::{Disk, Drafts, Reason, Written, has_bytes, keep_file, write_output_by};
 use teco_io::{Source, Terminal, TerminalFault};
 use teco_scan::asks_history;
 use teco_serve::{Alarm, Bounds, Fate, Listens, Manner, Served, Settings, output_name, serve};
 use teco_session::Session;
-use teco_store::{Desk, Editor};
+use teco_store::{Desk, Editor, Slices};
 
 /// Whether a string of these commands, which are had whole, may be undone, or is told of.
 fn wants_history(line: &Line, commands: &[u8]) -> bool
@@ -84,17 +83,18 @@ fn replaces_input(line: &Line) -> bool
 }
 
 /// Shows the output after an exit, after all that was typed.
-fn put_on_terminal<T: Terminal>(output: (&[u8], &[u8]), term: &mut T) -> Fate
-    ensures { EndsBy (doings_after Served.Exit (both output.entry) ⊥
+fn put_on_terminal<T: Terminal>(output: Slices<'_>, term: &mut T) -> Fate
+    ensures { EndsBy (doings_after Served.Exit (bytes_in output.entry) ⊥
         (standard_output T.screen term.old term.new)) result }
 {
-    if let Err(TerminalFault) = term.put(output.0) {
-        return Fate::NoOutput(Reason::WriteFailed);
+    let mut left = output;
+    while let Some((slice, others)) = left.split_first() {
+        if let Err(TerminalFault) = term.put(slice) {
+            return Fate::NoOutput(Reason::WriteFailed);
+        }
+        left = others;
     }
-    match term.put(output.1) {
-        Ok(()) => Fate::Ended(Served::Exit),
-        Err(TerminalFault) => Fate::NoOutput(Reason::WriteFailed),
-    }
+    Fate::Ended(Served::Exit)
 }
 
 /// Keeps what a file has under its name with the suffix after it, if there is one.
@@ -124,22 +124,22 @@ fn keep_old<D: Disk>(
 fn put_over_input<D: Disk>(
     alloc: Global,
     name: &str,
-    number: u32,
+    drafts: Drafts,
     suffix: Option<&str>,
-    output: (&[u8], &[u8]),
+    output: Slices<'_>,
     disk: &mut D,
 ) -> Fate
     ensures { let seen = disk_seen D.Disk D.Input.Source in
-        EndsBy (doings_after Served.Exit (both output.entry) (IsTrue true)
-        (named_output (seen disk.old) (seen disk.new) name.now (text_behind suffix.entry))) result }
+        EndsBy (doings_after Served.Exit (bytes_in output.entry) (IsTrue true)
+        (named_output (seen disk.old) (seen disk.new) name.now (replacing (text_behind suffix.entry) drafts.synced))) result }
 {
     if has_bytes(name, output, disk) {
         return Fate::Unchanged;
     }
-    if let Err(fate) = keep_old(alloc, name, number, suffix, disk) {
+    if let Err(fate) = keep_old(alloc, name, drafts.number, suffix, disk) {
         return fate;
     }
-    match write_output(alloc, disk, name, number, Some(name), output) {
+    match write_output_by(alloc, disk, name, drafts, Some(name), output) {
         Ok(Written::Whole(unkept)) => fate_written(unkept),
         Ok(Written::Changed) => Fate::Changed,
         Err(error) => no_output(error),
@@ -151,20 +151,20 @@ fn put_in_file<D: Disk>(
     alloc: Global,
     over: bool,
     name: &str,
-    number: u32,
+    drafts: Drafts,
     suffix: Option<&str>,
-    output: (&[u8], &[u8]),
+    output: Slices<'_>,
     disk: &mut D,
 ) -> Fate
     requires { over ≡ false → text_behind suffix ≡ None }
     ensures { let seen = disk_seen D.Disk D.Input.Source in
-        EndsBy (doings_after Served.Exit (both output.entry) (IsTrue over)
-        (named_output (seen disk.old) (seen disk.new) name.now (text_behind suffix.entry))) result }
+        EndsBy (doings_after Served.Exit (bytes_in output.entry) (IsTrue over)
+        (named_output (seen disk.old) (seen disk.new) name.now (replacing (text_behind suffix.entry) drafts.synced))) result }
 {
     if over {
-        return put_over_input(alloc, name, number, suffix, output, disk);
+        return put_over_input(alloc, name, drafts, suffix, output, disk);
     }
-    match write_output(alloc, disk, name, number, None, output) {
+    match write_output_by(alloc, disk, name, drafts, None, output) {
         Ok(Written::Whole(unkept)) => fate_written(unkept),
         // no file is named that was read, so none has changed
         Ok(Written::Changed) => unreachable!(),
@@ -253,7 +253,7 @@ pub fn finish<S: Source, A: Alarm, T: Terminal, D: Disk>(
 ) -> Fate
     ensures ends { let seen = disk_seen D.Disk D.Input.Source in
         FinishesIn (is_standard_output (string_bytes work.now.to)) served (present (history_of work.now.session)).output
-        (replaces_input line.now) (suffix_of line.now) (string_bytes work.now.to)
+        (replaces_input line.now) (replacing_of line.now) (string_bytes work.now.to)
         (seen host.old.disk) (seen host.new.disk) T.screen host.old.terminal host.new.terminal result }
     ensures still { host.new.commands ≡ host.old.commands }
 {
@@ -268,15 +268,11 @@ pub fn finish<S: Source, A: Alarm, T: Terminal, D: Disk>(
     }
     let over = replaces_input(line);
     let suffix = suffix_of(line);
-    put_in_file(
-        alloc,
-        over,
-        name,
-        host.process,
-        suffix,
-        output,
-        &mut host.disk,
-    )
+    let drafts = Drafts {
+        number: host.process,
+        synced: !line.no_sync,
+    };
+    put_in_file(alloc, over, name, drafts, suffix, output, &mut host.disk)
 }
 
 /// Gives up a session that is over.

@@ -2,7 +2,7 @@
 ghost use Rattle.std.specs.Prelude.{◌≡◌};
 ghost use Rattle.teco_driver.specs.Run.{fate_written};
 ghost use Rattle.teco_fs.specs.Reasons.{ComesTo};
-ghost use Rattle.teco_serve.specs.declared.fate.Fate.TheVariants.{NoBackup, NoCommands, NoInput, NoMemory, NoOutput};
+ghost use Rattle.teco_serve.specs.declared.fate.Fate.TheVariants.{NoBackup, NoInput, NoMemory, NoOutput};
 
 use std::io;
 use teco_fs::{Unkept, reason_of, unless_memory};
@@ -13,13 +13,6 @@ pub fn no_input(error: io::Error) -> Fate
     ensures { ComesTo error NoMemory NoInput result }
 {
     unless_memory(error, Fate::NoMemory, Fate::NoInput(reason_of(error)))
-}
-
-/// How it ends where the file of the commands can't be opened.
-pub fn no_commands(error: io::Error) -> Fate
-    ensures { ComesTo error NoMemory NoCommands result }
-{
-    unless_memory(error, Fate::NoMemory, Fate::NoCommands(reason_of(error)))
 }
 
 /// How it ends where the output can't be written.

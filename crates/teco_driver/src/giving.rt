@@ -1,18 +1,15 @@
 //! A run over one input of the line: by commands as they come, or by bytes that are had already.
-ghost use Rattle.std.specs.Prelude.{◌≡◌, true, false, IfNone, IfSome, Some};
-ghost use Rattle.std.specs.String.{string_bytes};
+ghost use Rattle.std.specs.Prelude.{◌≡◌, false, IfSome};
 ghost use Rattle.teco_cli.specs.CommandLine.{IsDepth};
-ghost use Rattle.teco_cli.specs.Conflict.{has_conflict};
 ghost use Rattle.teco_serve.specs.Exchange.{HasRung};
 ghost use Rattle.teco_cli.specs.StreamNames.{is_standard_input};
 ghost use Rattle.teco_driver.specs.declared.giving.Feed.TheVariants.{Stream};
-ghost use Rattle.teco_driver.specs.Given.{IsFeed, host_view, is_streamed};
+ghost use Rattle.teco_driver.specs.Given.{come_as_wanted, host_view, is_streamed};
 ghost use Rattle.teco_driver.specs.Runs.{LinkGiven};
 ghost use Rattle.teco_fs.specs.Seen.{disk_seen};
 
 use crate::concluding::conclude;
-use crate::editing::{depth_of, depth_said, edit_by, edit_by_stream};
-use crate::fates::no_commands;
+use crate::editing::{depth_of, edit_by, edit_by_stream};
 use crate::host::Host;
 use crate::keeping::keep_given;
 use crate::word_source::WordSource;
@@ -22,12 +19,22 @@ use teco_fs::Disk;
 use teco_io::{Source, Terminal};
 use teco_serve::{Alarm, Listens};
 
+/// Whether the commands come on standard input as they are wanted: no option gives them, or a name of it does.
+fn come_as_wanted(commands: &Commands) -> bool
+    ensures { result ≡ come_as_wanted commands.now }
+{
+    match commands {
+        Commands::StandardInput => true,
+        Commands::Bytes(name) => is_standard_input(name.as_str()),
+        Commands::Sources(..) | Commands::Pages(_) => false,
+    }
+}
+
 /// Whether the commands of the line are served to one input as they come.
 pub fn is_streamed(line: &Line) -> bool
     ensures { result ≡ is_streamed line.now }
 {
-    let as_wanted = matches!(line.commands, Commands::StandardInput | Commands::Bytes(_));
-    as_wanted && line.more.is_empty()
+    come_as_wanted(&line.commands) && line.more.is_empty()
 }
 
 /// Where the commands of a run over one input come from.
@@ -35,28 +42,8 @@ pub fn is_streamed(line: &Line) -> bool
 pub enum Feed<'a> {
     /// From standard input, as they are wanted.
     Stream,
-    /// From the file of this name, as they are wanted.
-    File(&'a str),
     /// They are these bytes, which are had already.
     Bytes(&'a [u8]),
-}
-
-/// Where the commands of the line come from, if they are served to one input as they come.
-pub fn feed_of(line: &Line) -> Option<Feed<'_>>
-    ensures some { IfSome result (λ feed. (is_streamed line.now ≡ true) × IsFeed line.now.commands feed) }
-    ensures none { IfNone result (is_streamed line.now ≡ false) }
-    ensures apart { has_conflict line.now ≡ false → result ≡ Some Stream
-        → is_standard_input (string_bytes line.now.input) ≡ false }
-{
-    if !is_streamed(line) {
-        return None;
-    }
-    match &line.commands {
-        Commands::Bytes(file) if !is_standard_input(file.as_str()) => {
-            Some(Feed::File(file.as_str()))
-        }
-        _ => Some(Feed::Stream),
-    }
 }
 
 /// Edits this input of the line by the commands that come from there, and tells how that ends. Gives the status.
@@ -79,20 +66,6 @@ pub fn edit_given<S: Source, A: Alarm, T: Terminal, E: Terminal, L: Listens, D: 
     }
     let fate = match feed {
         Feed::Stream => edit_by_stream(alloc, line, name, host, listener),
-        Feed::File(file) => match host.disk.open(file) {
-            Ok(mut given) => {
-                edit_by(
-                    alloc,
-                    line,
-                    name,
-                    depth_said(line),
-                    &mut given,
-                    host,
-                    listener,
-                )
-            }
-            Err(error) => no_commands(error),
-        },
         Feed::Bytes(bytes) => {
             let depth = depth_of(line, bytes);
             let mut given = WordSource::new(bytes);

@@ -24,7 +24,6 @@ ghost use Rattle.teco_session.specs.Kept.{history_of};
 
 use crate::concluding::conclude;
 use crate::editing::{Work, are_awaited, depth_said, finish, leave, settings_of};
-use crate::fates::no_commands;
 use crate::giving::Feed;
 use crate::host::Host;
 use crate::opening::open_told;
@@ -346,10 +345,6 @@ pub fn keep_given<S: Source, A: Alarm, T: Terminal, E: Terminal, L: Listens, D: 
 {
     let end = match feed {
         Feed::Stream => keep_by_stream(alloc, line, name, host, errors, listener),
-        Feed::File(file) => match host.disk.open(file) {
-            Ok(mut given) => keep_by(alloc, line, name, &mut given, host, errors, listener),
-            Err(error) => SessionEnd::Ended(no_commands(error)),
-        },
         Feed::Bytes(bytes) => {
             let mut given = WordSource::new(bytes);
             keep_by(alloc, line, name, &mut given, host, errors, listener)

@@ -29,7 +29,7 @@ mod word_source;
 
 pub use checked::checked_laws;
 pub(crate) use concluding::{NO_MEMORY, conclude, no_memory};
-pub(crate) use giving::{Feed, edit_given, feed_of};
+pub(crate) use giving::{Feed, edit_given, is_streamed};
 pub use host::Host;
 pub use paging::paging_laws;
 pub use running::program;

@@ -1,7 +1,6 @@
 //! A look at commands before they are run.
 ghost use Rattle.std.specs.Prelude.{◌≡◌, IfNone, IfSome};
-ghost use Rattle.teco_driver.specs.Given.{come_as_wanted};
-ghost use Rattle.teco_driver.specs.Checks.{AreRejected, MayRun};
+ghost use Rattle.teco_driver.specs.Checks.{AreRejected, MayRun, are_bytes};
 
 use crate::verdict::verdict_on;
 use crate::{ReadSources, no_memory};
@@ -10,9 +9,9 @@ use teco_cli::{Commands, Line};
 use teco_core::NoMemory;
 use teco_io::Terminal;
 
-/// Whether the commands are those of standard input, or of a file as they are.
-fn come_as_wanted(commands: &Commands) -> bool
-    ensures { result ≡ come_as_wanted commands.now }
+/// Whether the commands are bytes as they are, of standard input or a file.
+fn are_bytes(commands: &Commands) -> bool
+    ensures { result ≡ are_bytes commands.now }
 {
     matches!(commands, Commands::StandardInput | Commands::Bytes(_))
 }
@@ -32,7 +31,7 @@ pub(crate) fn status_if_misspelt<E: Terminal>(
     ensures may_run { IfNone result (MayRun line.now bytes.now) }
     ensures silent { IfNone result (errors.new ≡ errors.old) }
 {
-    if come_as_wanted(&line.commands) {
+    if are_bytes(&line.commands) {
         return None;
     }
     let Ok(verdict) = verdict_on(alloc, line, parts, bytes, false) else {

@@ -7,7 +7,7 @@ ghost use Rattle.teco_fs.specs.Reading.{IsInput, IsStreamed};
 ghost use Rattle.teco_fs.specs.Seen.{KeepsDisk, disk_seen};
 
 use crate::fates::no_input;
-use crate::giving::is_streamed;
+use crate::is_streamed;
 use std::alloc::Global;
 use teco_cli::{Line, is_standard_input};
 use teco_core::FILE_LIMIT;

@@ -16,7 +16,7 @@ ghost use Rattle.teco_fs.specs.Seen.{disk_seen};
 use crate::editing::are_awaited;
 use crate::looking::status_if_misspelt;
 use crate::reporter::Reporter;
-use crate::{Feed, Host, ReadSources, commands_given, decline, edit_given, feed_of};
+use crate::{Feed, Host, ReadSources, commands_given, decline, edit_given, is_streamed};
 use std::alloc::Global;
 use teco_cli::Line;
 use teco_fs::Disk;
@@ -86,22 +86,22 @@ fn hearer_of(line: &Line) -> Hearer
     }
 }
 
-/// Runs over the first input of the line by commands as they come. What is done is told on the notes.
+/// Runs over the first input of the line by the commands of standard input, as they come. What is done is told on the notes.
 fn edit_streamed<S: Source, A: Alarm, T: Terminal, E: Terminal, N: Terminal, D: Disk>(
     alloc: Global,
     line: &Line,
-    feed: Feed<'_>,
     host: &mut Host<S, A, T, D>,
     errors: &mut E,
     notes: &mut N,
 ) -> u8
     requires depth { IfSome line.now.undo IsDepth }
-    requires apart { feed ≡ Stream → is_standard_input (string_bytes line.now.input) ≡ false }
+    requires apart { is_standard_input (string_bytes line.now.input) ≡ false }
     ensures run { let view = host_view (disk_seen D.Disk D.Input.Source) S.Source T.screen (HasRung A.answered) in
-        LinkGiven view E.screen line.now feed.entry (string_bytes line.now.input)
+        LinkGiven view E.screen line.now Stream (string_bytes line.now.input)
         (host.old, errors.old) (host.new, errors.new) result }
     ensures silent { has_notes line.now ≡ false → notes.new ≡ notes.old }
 {
+    let feed = Feed::Stream;
     let name = line.input.as_str();
     match hearer_of(line) {
         Hearer::Nobody => edit_given(alloc, line, name, feed, host, errors, &mut Silent),
@@ -162,8 +162,8 @@ pub fn edit_all<S: Source, A: Alarm, T: Terminal, E: Terminal, N: Terminal, D: D
         ⊎ RunsOverAll view E.screen line.now host.old host.new errors.old errors.new result }
     ensures silent { has_notes line.now ≡ false → notes.new ≡ notes.old }
 {
-    if let Some(feed) = feed_of(line) {
-        return edit_streamed(alloc, line, feed, host, errors, notes);
+    if is_streamed(line) {
+        return edit_streamed(alloc, line, host, errors, notes);
     }
     let commands = &line.commands;
     let mut parts = ReadSources::kept(alloc);

@@ -2,9 +2,11 @@
 ghost use Rattle.std.specs.Prelude.{◌≡◌, ◌≤◌, ◌<◌, ◌+◌, ◌↔◌, ◌++◌, ◌∷◌, length, take, drop, IsErr, Some};
 ghost use Rattle.teco_io.specs.Terminal.{Puts};
 ghost use Rattle.teco_ffi.specs.Rooms.{filled};
+ghost use Rattle.teco_store.specs.Slices.{bytes_in};
 
-use crate::halves::halves_from;
+use crate::halves::{bytes_from, halves_from};
 use teco_io::{Terminal, TerminalFault};
+use teco_store::Slices;
 
 /// A terminal that writes to a room. A put that finds too little room left is a failure, and then nothing is written.
 ///
@@ -79,4 +81,30 @@ pub fn copy_from(room: &mut [u8], before: &[u8], after: &[u8], from: usize) -> u
     let (before, after) = halves_from(before, after, from);
     copy_halves(room, before, after);
     before.len() + after.len()
+}
+
+/// Copies as many of the bytes as there is room for behind the first `at` bytes of the room.
+fn copy_behind(room: &mut [u8], at: usize, bytes: &[u8])
+    requires { at ≤ length room.old }
+    ensures { room.new ≡ take at room.old ++ filled (drop at room.old) bytes.now }
+{
+    copy_front(&mut room[at..], bytes);
+}
+
+/// Copies an output from a place on, as much as there is room for, and tells how long it is from there.
+pub fn copy_output(room: &mut [u8], output: Slices<'_>, from: usize) -> usize
+    ensures length { result ≡ length (drop from (bytes_in output.entry)) }
+    ensures room { room.new ≡ filled room.old (drop from (bytes_in output.entry)) }
+{
+    let mut left = output;
+    let mut past = from;
+    let mut count = 0;
+    while let Some((slice, others)) = left.split_first() {
+        let bytes = bytes_from(slice, past);
+        copy_behind(room, count, bytes);
+        count += bytes.len().min(room.len() - count);
+        past = past.saturating_sub(slice.len());
+        left = others;
+    }
+    output.len().saturating_sub(from)
 }

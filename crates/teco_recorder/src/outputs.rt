@@ -1,5 +1,5 @@
 //! A session is run again, over an input that is the one that it began over or what it wrote last.
-ghost use Rattle.std.specs.Prelude.{◌≡◌, ◌≤◌, ◌&&◌, ◌++◌, IfErr, IfOk, None, OnOk, Some, length, not, true};
+ghost use Rattle.std.specs.Prelude.{◌≡◌, ◌≤◌, ◌&&◌, IfErr, IfOk, None, OnOk, Some, length, not, true};
 ghost use Rattle.std.specs.Option.{ForSome};
 ghost use Rattle.teco_core.specs.declared.limits.TheConstants.{DEPTH_LIMIT, FILE_LIMIT};
 ghost use Rattle.teco_journal.specs.Events.{event_of, events_of};
@@ -24,16 +24,6 @@ fn is_exit(told: &Record, was_done: bool, is_done: bool) -> bool
     matches!(told, Record::Run { .. }) && !was_done && is_done
 }
 
-/// Whether two parts, one after the other, are these bytes.
-fn are(parts: (&[u8], &[u8]), bytes: &[u8]) -> bool
-    ensures { result ≡ true → parts.entry.0.now ++ parts.entry.1.now ≡ bytes.now }
-{
-    match bytes.strip_prefix(parts.0) {
-        Some(rest) => rest == parts.1,
-        None => false,
-    }
-}
-
 /// Does some records again, and tells whether these bytes are the output of the last exit among them.
 fn is_last_again(
     session: &mut Session,
@@ -51,7 +41,7 @@ fn is_last_again(
             return Err(fault);
         }
         if is_exit(told, was_done, session.editor().done()) {
-            is_last = are(session.editor().output(), bytes);
+            is_last = session.editor().output().are(bytes);
         }
     }
     Ok(is_last)

@@ -65,13 +65,16 @@ impl<'a, C: Clock> Timer for SystemTimer<'a, C> {
     }
 }
 
-/// The steps from one look at the clock to the next.
-const STEPS: u64 = 256;
+/// The most steps from one look at the clock to the next.
+const MOST_STEPS: u64 = 16;
+
+/// How many milliseconds may lie between two looks before there are fewer steps from one to the next.
+const NEAR: u128 = 10;
 
 /// An alarm by a clock.
 ///
-/// It reads the clock when it is set, and then before each 256th step. It asks a string to stop only after a reading that is so many
-/// seconds later than the first one. A clock that can't be read breaks off no string.
+/// It reads the clock when it is set, and then before each 16th step, or more often where steps take long. It asks a string to stop only
+/// after a reading that is so many seconds later than the first one. A clock that can't be read breaks off no string.
 #[derive(Drop)]
 pub struct ClockAlarm<M: Timer> {
     timer: M,
@@ -80,6 +83,10 @@ pub struct ClockAlarm<M: Timer> {
     first: Option<Instant>,
     /// What it told last.
     last: Option<Instant>,
+    /// The steps from one look to the next.
+    pace: u64,
+    /// After how many steps it looks next.
+    next: u64,
 }
 
 impl<'a, C: Clock> ClockAlarm<SystemTimer<'a, C>> {
@@ -90,6 +97,8 @@ impl<'a, C: Clock> ClockAlarm<SystemTimer<'a, C>> {
             seconds: 0,
             first: None,
             last: None,
+            pace: 1,
+            next: 0,
         }
     }
 }
@@ -104,6 +113,8 @@ impl<M: Timer> ClockAlarm<M> {
         self.seconds = seconds;
         self.first = self.timer.read();
         self.last = None;
+        self.pace = 1;
+        self.next = 0;
     }
 
     /// Whether the seconds are over. It reads the clock, unless they were over before.
@@ -119,6 +130,29 @@ impl<M: Timer> ClockAlarm<M> {
             self.last = self.timer.read();
         }
         are_apart(self.seconds, self.first, self.last)
+    }
+
+    /// Whether the seconds are over, by a look after so many steps. It sets when the next one is due.
+    fn looks(&mut self, done: u64) -> bool
+        ensures over { IsTrue result ↔ AreApart self.new.seconds self.new.first self.new.last }
+        ensures still { AreApart self.old.seconds self.old.first self.old.last
+            → AreApart self.new.seconds self.new.first self.new.last }
+        ensures span { self.new.seconds ≡ self.old.seconds }
+    {
+        let before = self.last.or(self.first);
+        let over = self.is_over();
+        self.pace = pace_after(self.pace, before, self.last);
+        self.next = done.saturating_add(self.pace);
+        over
+    }
+}
+
+/// The steps up to the next look: at most twice as many as up to this one, and fewer where they took long.
+fn pace_after(pace: u64, before: Option<Instant>, now: Option<Instant>) -> u64 {
+    match (before, now) {
+        (Some(before), Some(now)) if now.duration_since(before).as_millis() > NEAR => (pace
+            / 4).max(1),
+        _ => pace.saturating_mul(2).min(MOST_STEPS),
     }
 }
 
@@ -137,7 +171,7 @@ impl<M: Timer> Stop for ClockAlarm<M> {
 
     #[inline(always)]
     fn asks(&mut self, done: u64) -> bool {
-        done % STEPS == 0 && self.is_over()
+        done >= self.next && self.looks(done)
     }
 }
 

@@ -20,6 +20,7 @@ use teco_cli::{LineFault, is_standard_input, is_standard_output, line_in};
 use teco_core::NoMemory;
 use teco_fs::{Disk, Reason, Unkept, Written, refuse, tell_no_memory, write_output};
 use teco_io::{Source, Terminal, TerminalFault};
+use teco_store::Slices;
 
 /// What is told where memory is refused to the program.
 const NO_MEMORY: &[u8] = b"tecol: no memory\n";
@@ -64,7 +65,7 @@ fn put<T: Terminal, D: Disk>(
             Err(TerminalFault) => Err(TecolFate::NoOutput(Reason::WriteFailed)),
         };
     }
-    match write_output(alloc, disk, name, number, None, (bytes, &[])) {
+    match write_output(alloc, disk, name, number, None, Slices::of(bytes)) {
         Ok(Written::Whole(unkept)) => Ok(unkept),
         // no file is named that was read, so none has changed
         Ok(Written::Changed) => unreachable!(),

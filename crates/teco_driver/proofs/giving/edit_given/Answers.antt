@@ -1,17 +1,14 @@
-use Rattle.std.proofs.Common.{◌≡◌, ◌∙◌, ℕ, List, arith, inl, inr, refl, sym, subst}
-use Rattle.teco_cli.specs.StreamNames.{is_standard_input}
+use Rattle.std.proofs.Common.{◌≡◌, ◌∙◌, ℕ, List, arith, sym, subst}
 use Rattle.teco_cli.specs.declared.line.Line.{Line}
 use Rattle.teco_driver.specs.Given.{EditsGiven, HostView, host_view}
-use Rattle.teco_driver.specs.Run.{standard_input}
-use Rattle.teco_driver.specs.Seen.{commands_seen}
 use Rattle.teco_driver.specs.declared.giving.Feed.{Feed}
 use Rattle.teco_driver.specs.declared.host.Host.{Host}
-use Rattle.teco_fs.specs.Seen.{KeepsDisk, disk_seen}
+use Rattle.teco_fs.specs.Seen.{disk_seen}
 use Rattle.teco_serve.specs.Exchange.{HasRung}
 use Rattle.teco_serve.specs.declared.fate.Fate.{Fate}
-use Rattle.teco_driver.proofs.Doings.{edits_from, reads_all}
+use Rattle.teco_driver.proofs.Doings.{reads_all}
 use Rattle.teco_driver.proofs.giving.edit_given.Goals as goal
-use Rattle.teco_driver.proofs.giving.edit_given.Goals.{in-Stream, in-File+in-Ok, in-File+in-Err, in-Bytes}
+use Rattle.teco_driver.proofs.giving.edit_given.Goals.{in-Stream, in-Bytes}
 
 -- a run by the same feed, with the same end
 the_same : {D I S A T : Type 0} (view : HostView D I S T) (line : Line) (name : List ℕ) (old : Host S A T D) {feed given : Feed} {new left : Host S A T D} {fate so : Fate}
@@ -23,7 +20,6 @@ the_same {D} {I} {S} {A} {T} view line name old {feed} {given} {new} {left} {fat
 
 pub returns : goal.returns
 returns g c =
-    let seen = disk_seen g.D.Disk g.D.Input.Source in
     let view = host_view (disk_seen g.D.Disk g.D.Input.Source) g.S.Source g.T.Terminal.screen (HasRung g.A.Stop.answered) in
     let line = c.args.line.now in
     let name = c.args.name.now in
@@ -32,32 +28,6 @@ returns g c =
       fate = c.match-feed.fate;
       run = elim c.match-feed.branch [
         | in-Stream w ↦ the_same view line name host w.in-Stream.is w.host-is w.fate-is w.edit_by_stream-fate.ensures
-        | in-File+in-Ok w ↦
-            let kept : KeepsDisk (seen host.disk) (seen w.open.new.self) = record {
-              files = w.open.ensures.still.files;
-              streams = w.open.ensures.still.streams;
-              moments = w.open.ensures.still.moments;
-            } in
-            the_same view line name host w.in-File.is w.host-is w.fate-is (record {
-              kept = w.edit_by.ensures.still;
-              edits = inr (
-                w.in-Ok.given,
-                w.edit_by.new.commands,
-                w.in-Ok.ensures.input,
-                edits_from (seen host.disk) (seen w.open.new.self) (seen w.edit_by.new.host.disk) kept (standard_input g.S.Source host.commands w.edit_by.new.host.commands) name (is_standard_input name) line
-                    (commands_seen g.D.Input.Source w.in-Ok.given w.edit_by.new.commands (HasRung g.A.Stop.answered) line.undo) g.T.Terminal.screen host.terminal w.edit_by.new.host.terminal w.edit_by.result
-                    (rw w.depth_said.ensures.depth at w.edit_by.ensures.edits),
-              );
-            })
-        | in-File+in-Err w ↦ the_same view line name host w.in-File.is w.host-is w.fate-is (record {
-          kept = λ apart. refl;
-          edits = inl (
-            w.in-Err.error,
-            w.in-Err.ensures.still.error,
-            w.no_commands.ensures,
-            (refl, record { files = w.open.ensures.still.files; streams = w.open.ensures.still.streams; moments = w.open.ensures.still.moments }),
-          );
-        })
         | in-Bytes w ↦ the_same view line name host w.in-Bytes.is w.host-is w.fate-is (record {
           kept = w.edit_by-fate.ensures.still;
           first = w.new-given.result;

@@ -1,4 +1,4 @@
-use Rattle.std.proofs.Common.{◌≡◌, ◌∙◌, ap, inl, inr, refl, subst, sym}
+use Rattle.std.proofs.Common.{◌∙◌, ap, inl, inr}
 use Rattle.std.specs.String.{string_bytes}
 use Rattle.teco_driver.specs.Given.{host_view}
 use Rattle.teco_driver.specs.Seen.{commands_seen}

@@ -1,15 +1,13 @@
-use Rattle.std.proofs.Common.{◌≡◌, ℕ, List, inl, inr, refl, subst, sym}
+use Rattle.std.proofs.Common.{◌≡◌, ℕ, List, subst, sym}
 use Rattle.teco_cli.specs.declared.line.Line.{Line}
 use Rattle.teco_driver.specs.Given.{HostView, host_view}
-use Rattle.teco_driver.specs.Seen.{commands_seen}
 use Rattle.teco_driver.specs.Sessions.{EditsKeptGiven}
 use Rattle.teco_driver.specs.declared.giving.Feed.{Feed}
 use Rattle.teco_driver.specs.declared.host.Host.{Host}
 use Rattle.teco_driver.specs.declared.keeping.SessionEnd.{SessionEnd}
-use Rattle.teco_driver.proofs.Sessions.{edits_kept_from}
 use Rattle.teco_driver.proofs.keeping.keep_given.Goals as goal
-use Rattle.teco_driver.proofs.keeping.keep_given.Goals.{in-Stream, in-File+in-Ok, in-File+in-Err, in-Bytes}
-use Rattle.teco_fs.specs.Seen.{KeepsDisk, disk_seen}
+use Rattle.teco_driver.proofs.keeping.keep_given.Goals.{in-Stream, in-Bytes}
+use Rattle.teco_fs.specs.Seen.{disk_seen}
 use Rattle.teco_io.specs.Terminal.{Screen}
 use Rattle.teco_serve.specs.Exchange.{HasRung}
 
@@ -25,7 +23,6 @@ the_same {D} {I} {S} {A} {T} {E} view errors line name old told {feed} {given} {
 
 pub returns : goal.returns
 returns g c =
-    let seen = disk_seen g.D.Disk g.D.Input.Source in
     let view = host_view (disk_seen g.D.Disk g.D.Input.Source) g.S.Source g.T.Terminal.screen (HasRung g.A.Stop.answered) in
     let errors = g.E.Terminal.screen in
     let line = c.args.line.now in
@@ -37,33 +34,6 @@ returns g c =
       end = c.match-feed.end;
       run = elim c.match-feed.branch [
         | in-Stream w ↦ the_same view errors line name host told w.in-Stream.is w.host-is w.errors-is w.end-is w.keep_by_stream-end.ensures
-        | in-File+in-Ok w ↦
-            let kept : KeepsDisk (seen host.disk) (seen w.open.new.self) = record {
-              files = w.open.ensures.still.files;
-              streams = w.open.ensures.still.streams;
-              moments = w.open.ensures.still.moments;
-            } in
-            the_same view errors line name host told w.in-File.is w.host-is w.errors-is w.end-is (record {
-              kept = w.keep_by.ensures.still;
-              keeps = inr (
-                w.in-Ok.given,
-                w.keep_by.new.commands,
-                w.in-Ok.ensures.input,
-                edits_kept_from view errors line name host w.open.new.self kept
-                    (commands_seen g.D.Input.Source w.in-Ok.given w.keep_by.new.commands (HasRung g.A.Stop.answered) line.undo)
-                    w.keep_by.new.host told w.keep_by.new.errors w.keep_by.result w.keep_by.ensures.keeps,
-              );
-            })
-        | in-File+in-Err w ↦ the_same view errors line name host told w.in-File.is w.host-is w.errors-is w.end-is (record {
-          kept = λ apart. refl;
-          keeps = inl (
-            w.in-Err.error,
-            w.in-Err.ensures.still.error,
-            (w.no_commands.result, refl, w.no_commands.ensures),
-            (refl, record { files = w.open.ensures.still.files; streams = w.open.ensures.still.streams; moments = w.open.ensures.still.moments }),
-            refl,
-          );
-        })
         | in-Bytes w ↦ the_same view errors line name host told w.in-Bytes.is w.host-is w.errors-is w.end-is (record {
           kept = w.keep_by-end.ensures.still;
           first = w.new-given.result;

@@ -1,4 +1,4 @@
-use Rattle.std.proofs.Common.{◌≡◌, ◌∙◌, ap, inl, inr, length, refl, rules, subst, sym}
+use Rattle.std.proofs.Common.{◌≡◌, ◌∙◌, ap, inl, inr, refl, rules}
 use Rattle.teco_driver.specs.SessionLines.{session_name}
 use Rattle.teco_driver.specs.Sessions.{TellsAgain, origin_by}
 use Rattle.teco_driver.proofs.Sessions.{closed_bare, opens_heard_bare, shut_heard}

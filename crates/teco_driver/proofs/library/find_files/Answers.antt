@@ -1,4 +1,4 @@
-use Rattle.std.proofs.Common.{◌≡◌, ℕ, List, String, Global, arith, false, length, map, rules, subst}
+use Rattle.std.proofs.Common.{◌≡◌, List, String, Global, arith, false, length, map, rules, subst}
 use Rattle.std.proofs.lemmas.Grind.{common_steps}
 use Rattle.std.specs.Prelude.{nat_eq}
 use Rattle.std.specs.String.{string_bytes}

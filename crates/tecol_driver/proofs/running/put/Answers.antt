@@ -1,4 +1,4 @@
-use Rattle.std.proofs.Common.{List, ℕ, Ok, append-nil, rules, sym, subst, ◌∙◌}
+use Rattle.std.proofs.Common.{List, ℕ, Ok, rules, sym, subst, ◌∙◌}
 use Rattle.teco_fs.specs.Disk.{Changes, Passes}
 use Rattle.teco_cli.specs.StreamNames.{is_standard_output}
 use Rattle.teco_fs.specs.Seen.{disk_seen}
@@ -13,7 +13,7 @@ returns-in-Ok-Whole g c =
     let old = c.args.disk.now in
     let new = c.write_output.new.disk in
     let name = c.as_str-name.result.now in
-    let whole = append-nil c.args.bytes.now in
+    let whole = c.of.ensures in
     let ok = rw c.in-Ok-Whole.field-0-is at c.in-Ok-Whole.ensures in
     subst (λ (n : List ℕ). PutsOut (output_to (is_standard_output n) g.T.Terminal.screen n (seen old) (seen new) c.args.term.now c.args.term.now) c.args.bytes.now (Ok c.in-Ok-Whole.unkept)) c.as_str-name.ensures.value
     (writes_in g.T.Terminal.screen name c.args.bytes.now (seen old) (seen new) c.args.term.now (sym c.is_standard_output.ensures ∙ c.if-is_standard_output.false) c.in-Ok-Whole.unkept (record {
@@ -33,7 +33,7 @@ returns-in-Err-write_output g c =
     (fails_in g.T.Terminal.screen name c.args.bytes.now (seen old) (seen new) c.args.term.now (sym c.is_standard_output.ensures ∙ c.if-is_standard_output.false) fate (record {
       files = c.in-Err-write_output.ensures.err;
       streams = c.in-Err-write_output.ensures.streams;
-      moments = subst (λ (bytes : List ℕ). Passes (g.D.Disk.seen old).files (g.D.Disk.seen old).left (g.D.Disk.seen new).left (IsWriting name bytes)) (append-nil c.args.bytes.now) c.in-Err-write_output.ensures.moments;
+      moments = subst (λ (bytes : List ℕ). Passes (g.D.Disk.seen old).files (g.D.Disk.seen old).left (g.D.Disk.seen new).left (IsWriting name bytes)) c.of.ensures c.in-Err-write_output.ensures.moments;
       error = c.in-Err-write_output.error;
       given = c.in-Err-write_output.ensures.error;
       fate_is = c.no_output.ensures;

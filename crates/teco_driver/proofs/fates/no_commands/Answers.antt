@@ -1,9 +1,0 @@
-use Rattle.std.proofs.Common.{◌∙◌, ap}
-use Rattle.teco_serve.specs.declared.fate.Fate.TheVariants.{NoCommands}
-use Rattle.teco_driver.proofs.fates.no_commands.Goals as goal
-
-pub returns : goal.returns
-returns c = record {
-  memory = c.unless_memory.ensures.memory;
-  other_is = λ other. c.unless_memory.ensures.other other ∙ ap NoCommands c.reason_of.ensures;
-}
