@@ -20,7 +20,7 @@ use teco_serve::{Asked, Splitter};
 use teco_session::Session;
 use teco_source::{commands, listing};
 use teco_step::{Context, Next, line_place, step_token};
-use teco_store::{Desk, Editor};
+use teco_store::{Desk, Editor, Slices};
 use teco_undo::Recorder;
 
 /// teco_core: a sum is given, and a command takes it.
@@ -220,10 +220,12 @@ fn a_file_is_put(alloc: Global) -> bool {
     disk.put("in", b"one").is_ok() && disk.open("in").is_ok() && are_there(disk.bytes("in"), b"one")
 }
 
-/// teco_fs: a file has these bytes, which come in two parts.
+/// teco_fs: a file has these bytes, and no others.
 fn a_file_is_compared(alloc: Global) -> bool {
     let mut disk = MemoryDisk::new(alloc, RefusedCall::Nothing);
-    disk.put("in", b"one").is_ok() && has_bytes("in", (b"o", b"ne"), &mut disk)
+    disk.put("in", b"one").is_ok()
+        && has_bytes("in", Slices::of(b"one"), &mut disk)
+        && !has_bytes("in", Slices::of(b"on"), &mut disk)
 }
 
 /// teco_serve: a stream is cut at its pairs of ESC.

@@ -26,6 +26,7 @@ mod limits;
 mod line;
 mod reader_source;
 mod serving;
+mod shifting;
 mod slips;
 mod splitter;
 mod word;
@@ -235,8 +236,8 @@ const ROWS: &str = "
     - teco --prompt in => 1=\x1b\x1b => *1\r\n* => => => 2 => in == hi\n
     - teco in => Ia\x1b => => => => 2 => in == hi\n ++ in.out == old
     - // The limit, the seconds and the depth are those of the line. What a string that was broken off leaves is what a limit of its steps leaves, and an undo takes it back. The time of each string begins anew.
-    - teco --seconds 3 in => <%A>\x1b\x1bQA=\x1b\x1b2{\x1b\x1bQA=\x1b\x1b => ?LIM\r\n256\r\n0\r\n => => => 2 => in == hi\n
-    - teco --limit 512 in => <%A>\x1b\x1bQA=\x1b\x1b2{\x1b\x1bQA=\x1b\x1b => ?LIM\r\n256\r\n0\r\n => => => 2 => in == hi\n
+    - teco --seconds 3 in => <%A>\x1b\x1bQA=\x1b\x1b2{\x1b\x1bQA=\x1b\x1b => ?LIM\r\n1\r\n0\r\n => => => 2 => in == hi\n
+    - teco --limit 2 in => <%A>\x1b\x1bQA=\x1b\x1b2{\x1b\x1bQA=\x1b\x1b => ?LIM\r\n1\r\n0\r\n => => => 2 => in == hi\n
     - teco --seconds 3 in => 1=\x1b\x1b2=\x1b\x1b3=\x1b\x1b4=\x1b\x1b5=\x1b\x1b => 1\r\n2\r\n3\r\n4\r\n5\r\n => => => 2 => in == hi\n
     - teco --limit 0 in => 1=\x1b\x1b => ?LIM\r\n => => => 2 => in == hi\n
     - teco --limit 5 in => YNc\x1b\x1bHT\x1b\x1b => ?LIM\r\nc => => => 2 => in == a\x0cb\x0cc

@@ -5,6 +5,7 @@ mod conditionals;
 mod faults;
 mod iterations;
 mod jumps;
+mod line_ends;
 mod page_lines;
 mod page_turns;
 mod places;

@@ -1,3 +1,5 @@
 //! Of teco_search: search texts.
 pub(crate) mod elements;
+mod halves;
+mod long_texts;
 mod patterns;

@@ -1,6 +1,7 @@
 //! Of teco_step: command strings, what they type, and the code by which they end.
 pub(crate) mod edits;
 pub(crate) mod failed_searches;
+mod lines;
 pub(crate) mod operands;
 pub(crate) mod search_forms;
 pub(crate) mod searches;

@@ -8,6 +8,8 @@ use teco_session::Session;
 use teco_store::{ChangeKind, Desk, Editor};
 use teco_undo::{ChangeList, Recorder};
 
+mod late;
+
 /// The steps that were done before the first changes.
 const STEPS: &str = "
     0
@@ -19,8 +21,8 @@ const STEPS: &str = "
 /// The kinds of the ten changes of a step, in order.
 const KINDS: &[u8] = b"nsspmfpsPd";
 
-/// Makes a change of each kind.
-fn are_made(recorder: &mut Recorder) -> bool {
+/// Makes a change of each kind, where no search has come to this yet.
+fn are_made(recorder: &mut Recorder, found: bool) -> bool {
     let Some(q) = Reg::of(b'9') else {
         return false;
     };
@@ -29,7 +31,7 @@ fn are_made(recorder: &mut Recorder) -> bool {
         && recorder.splice(0, 0, b"bc", None).is_ok()
         && recorder.point(0).is_ok()
         && recorder.set_case(CaseMode::Either).is_ok()
-        && recorder.note_search(None, true, 0).is_ok()
+        && recorder.note_search(None, found, 0).is_ok()
         && recorder.finish().is_ok()
 }
 
@@ -72,9 +74,9 @@ impl Rule for Marked {
         let done = number_or(row, 0);
         let mut recorder = Recorder::new(Editor::new(Vec::new(alloc)));
         recorder.step_done(done);
-        let mut made = are_made(&mut recorder);
+        let mut made = are_made(&mut recorder, true);
         recorder.step_done(done.wrapping_add(1));
-        made = are_made(&mut recorder) && made;
+        made = are_made(&mut recorder, false) && made;
         made && are_marked(&recorder.take(), done)
     }
 }

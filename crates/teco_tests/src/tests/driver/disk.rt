@@ -10,9 +10,12 @@ use std::os::fd::AsRawFd;
 use std::os::unix::fs::{MetadataExt, PermissionsExt};
 use std::time::SystemTime;
 use std::{fs, io};
-use teco_fs::{Disk, FileDisk, MemoryDisk, RefusedCall, Written, keep_file, write_output};
+use teco_fs::{
+    Disk, FileDisk, MemoryDisk, RefusedCall, Written, has_bytes, keep_file, write_output,
+};
+use teco_store::Slices;
 
-/// Whether an output of these bytes is written, in two parts. What was read under this name, if a name is given, has to be what it was.
+/// Whether an output of these bytes is written. What was read under this name, if a name is given, has to be what it was.
 fn writes_over<D: Disk>(
     alloc: Global,
     disk: &mut D,
@@ -20,9 +23,9 @@ fn writes_over<D: Disk>(
     read: Option<&str>,
     bytes: &str,
 ) -> bool {
-    let parts = bytes.as_bytes().split_at(bytes.len() / 2);
+    let output = Slices::of(bytes.as_bytes());
     matches!(
-        write_output(alloc, disk, name, 7, read, parts),
+        write_output(alloc, disk, name, 7, read, output),
         Ok(Written::Whole(_)),
     )
 }
@@ -149,6 +152,7 @@ fn asked<D: Disk>(alloc: Global, disk: &mut D, verb: u8, name: &str, value: &str
         b'f' => writes_over(alloc, disk, name, Some(name), value),
         b'v' => can_be_replaced(disk, name),
         b'k' => keep_file(alloc, disk, name, 7, value).is_ok(),
+        b'y' => has_bytes(name, Slices::of(value.as_bytes()), disk),
         _ => failed_by(disk.why(), name),
     }
 }
@@ -203,7 +207,7 @@ where
         b'a' => ages(rt, name),
         b'b' => is_standard_output(rt, disk, name),
         b'j' => are_one(rt, name, value),
-        verb @ (b'o' | b't' | b'w' | b's' | b'f' | b'v' | b'k' | b'e') => asked(
+        verb @ (b'o' | b't' | b'w' | b's' | b'f' | b'v' | b'k' | b'y' | b'e') => asked(
             rt.alloc(),
             disk,
             verb,
@@ -366,6 +370,14 @@ const SCRIPT: &str = "
     open teco_test/in
     remove teco_test/in
     same teco_test/in no
+    // Whether it has an output's bytes already: not with another size than it had when it was opened, whatever it has now.
+    make teco_test/in as read
+    open teco_test/in
+    yields teco_test/in as read
+    not yields teco_test/in AS READ
+    not yields teco_test/in as rea
+    make teco_test/in as
+    not yields teco_test/in as
     unmake teco_test
     new teco_test
     // What is edited in place: a regular file, also behind a link. Nothing else is opened, so that a pipe doesn't wait for its writer.
@@ -455,11 +467,11 @@ fn writes_whole_files_and_tells_what_a_file_is(rt: HostRuntime) {
     assert_of(&rt, failed, failed.is_empty());
 }
 
-/// What a disk in memory refuses, and what a device of it was given of two outputs: of each that is refused half the first part. No file
-/// is made. A file is as it was read, unless the disk is to tell of a change.
+/// What a disk in memory refuses, and what a device of it was given of two outputs: of each that is refused the first half. No file is
+/// made. A file is as it was read, unless the disk is to tell of a change.
 static DEVICES: [(RefusedCall, &str); 3] = [
     (RefusedCall::Nothing, "abcdefgh"),
-    (RefusedCall::Write, "ae"),
+    (RefusedCall::Write, "abef"),
     (RefusedCall::Changed, "abcdefgh"),
 ];
 

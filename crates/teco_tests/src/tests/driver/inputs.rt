@@ -32,6 +32,13 @@ pub(super) const ROWS: &str = "
     - // What has the output already isn't written: a refused write is not met.
     - teco -i -e YEX$$ in => unread => => => => => in == hi\n => => write
     - teco -i -e YIA$EX$$ in => unread => => teco: cannot write in: there is no room on the disk\n => => 1 => in == hi\n => => write
+    - // An output that isn't waited for takes its name though a sync would fail. Of standard output there is none.
+    - teco -i -e YIA$EX$$ in => unread => => teco: cannot write in: there is no room on the disk\n => => 1 => in == hi\n => => sync
+    - teco --no-sync -i -e YIA$EX$$ in => unread => => => => => in == hi\n => in == Ahi\n => sync
+    - teco --no-sync -p IA$ -o out in => unread => => => => => in == hi\n => in == hi\n ++ out == Ahi\n => sync
+    - teco -p IA$ -o out in => unread => => teco: cannot write out: there is no room on the disk\n => => 1 => in == hi\n => => sync
+    - teco --no-sync -i.bak -p IA$ in two --no-sync => unread => => => => => in == hi\n ++ two == two\n => in == Ahi\n ++ in.bak == hi\n ++ two == Atwo\n ++ two.bak == two\n => sync
+    - teco --no-sync -p IA$ in => unread => Ahi\n => => => => in == hi\n => => sync
     - // The old file is kept in the place of what had its name. What is not written is not kept.
     - teco --in-place=.bak -e YIA$EX$$ in => unread => => => => => in == hi\n => in == Ahi\n ++ in.bak == hi\n
     - teco -i.bak -p IA$ in => unread => => => => => in == hi\n ++ in.bak == old => in == Ahi\n ++ in.bak == hi\n

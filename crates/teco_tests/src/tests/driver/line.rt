@@ -36,7 +36,8 @@ fn rest_told(alloc: Global, line: &Line) -> Result<String, NoMemory> {
             line.prompt,
             line.check,
             line.explain,
-            line.quiet
+            line.quiet,
+            line.no_sync
         ],
         line.limit,
         [line.undo, line.page_lines]
@@ -155,23 +156,23 @@ const ROWS: &str = "
     teco --help => => => 0
     teco -V => => => 0
     // What the other options say.
-    teco in => => in [] None [false, false, false, false, false] None None [None, None]
-    teco --limit 5 --output o --prompt in => => in [] Some(\"o\") [false, true, false, false, false] Some(5) None [None, None]
-    teco in --limit=1000000000000 --explain -o - => => in [] Some(\"-\") [false, false, false, true, false] Some(1000000000000) None [None, None]
-    teco --seconds 1 in => => in [] None [false, false, false, false, false] None Some(1) [None, None]
-    teco in --seconds=1000000000000 => => in [] None [false, false, false, false, false] None Some(1000000000000) [None, None]
-    teco --undo 1 in => => in [] None [false, false, false, false, false] None None [Some(1), None]
-    teco in --undo=100000 => => in [] None [false, false, false, false, false] None None [Some(100000), None]
-    teco in -i => => in [] None [true, false, false, false, false] None None [None, None]
-    teco -i in => => in [] None [true, false, false, false, false] None None [None, None]
-    teco -b EX --check in => => in [] None [false, false, true, false, false] None None [None, None]
+    teco in => => in [] None [false, false, false, false, false, false] None None [None, None]
+    teco --limit 5 --output o --prompt in => => in [] Some(\"o\") [false, true, false, false, false, false] Some(5) None [None, None]
+    teco in --limit=1000000000000 --explain -o - => => in [] Some(\"-\") [false, false, false, true, false, false] Some(1000000000000) None [None, None]
+    teco --seconds 1 in => => in [] None [false, false, false, false, false, false] None Some(1) [None, None]
+    teco in --seconds=1000000000000 => => in [] None [false, false, false, false, false, false] None Some(1000000000000) [None, None]
+    teco --undo 1 in => => in [] None [false, false, false, false, false, false] None None [Some(1), None]
+    teco in --undo=100000 => => in [] None [false, false, false, false, false, false] None None [Some(100000), None]
+    teco in -i => => in [] None [true, false, false, false, false, false] None None [None, None]
+    teco -i in => => in [] None [true, false, false, false, false, false] None None [None, None]
+    teco -b EX --check in => => in [] None [false, false, true, false, false, false] None None [None, None]
     teco --check --prompt in => => => 3
-    teco -p 0K in --in-place a b -- -c => => in [\"a\", \"b\", \"-c\"] None [true, false, false, false, false] None None [None, None]
-    teco -e EX$$ in - => => in [\"-\"] None [false, false, false, false, false] None None [None, None]
-    teco -e EX$$ - => => - [] None [false, false, false, false, false] None None [None, None]
-    teco -o -b in => => in [] Some(\"-b\") [false, false, false, false, false] None None [None, None]
-    teco --page-lines 1 in => => in [] None [false, false, false, false, false] None None [None, Some(1)]
-    teco in --page-lines=1000000000 => => in [] None [false, false, false, false, false] None None [None, Some(1000000000)]
+    teco -p 0K in --in-place a b -- -c => => in [\"a\", \"b\", \"-c\"] None [true, false, false, false, false, false] None None [None, None]
+    teco -e EX$$ in - => => in [\"-\"] None [false, false, false, false, false, false] None None [None, None]
+    teco -e EX$$ - => => - [] None [false, false, false, false, false, false] None None [None, None]
+    teco -o -b in => => in [] Some(\"-b\") [false, false, false, false, false, false] None None [None, None]
+    teco --page-lines 1 in => => in [] None [false, false, false, false, false, false] None None [None, Some(1)]
+    teco in --page-lines=1000000000 => => in [] None [false, false, false, false, false, false] None None [None, Some(1000000000)]
     teco --page-lines 0 in => => => 3
     teco --page-lines 1000000001 in => => => 3
     teco --page-lines -1 in => => => 3
@@ -185,21 +186,21 @@ const ROWS: &str = "
     teco --undo 100001 in => => => 3
     teco --undo x in => => => 3
     teco -i=true in => => => 3
-    teco in -q => => in [] None [false, false, false, false, true] None None [None, None]
-    teco --quiet --explain in => => in [] None [false, false, false, true, true] None None [None, None]
+    teco in -q => => in [] None [false, false, false, false, true, false] None None [None, None]
+    teco --quiet --explain in => => in [] None [false, false, false, true, true, false] None None [None, None]
     // The old file is kept if there is a suffix, which is not empty and has no slash. A value is no option, nor is a word after --.
-    teco --in-place=.bak in => => in [] None [true, false, false, false, false] None None [None, None] => => .bak
-    teco in -i.old => => in [] None [true, false, false, false, false] None None [None, None] => => .old
-    teco --backup ~ in => => in [] None [true, false, false, false, false] None None [None, None] => => ~
-    teco --backup -x in => => in [] None [true, false, false, false, false] None None [None, None] => => -x
-    teco -i --in-place=.bak in => => in [] None [true, false, false, false, false] None None [None, None] => => .bak
-    teco --in-place=.a -i.b -i in => => in [] None [true, false, false, false, false] None None [None, None] => => .b
-    teco --in-place=in-place=i.x in => => in [] None [true, false, false, false, false] None None [None, None] => => in-place=i.x
+    teco --in-place=.bak in => => in [] None [true, false, false, false, false, false] None None [None, None] => => .bak
+    teco in -i.old => => in [] None [true, false, false, false, false, false] None None [None, None] => => .old
+    teco --backup ~ in => => in [] None [true, false, false, false, false, false] None None [None, None] => => ~
+    teco --backup -x in => => in [] None [true, false, false, false, false, false] None None [None, None] => => -x
+    teco -i --in-place=.bak in => => in [] None [true, false, false, false, false, false] None None [None, None] => => .bak
+    teco --in-place=.a -i.b -i in => => in [] None [true, false, false, false, false, false] None None [None, None] => => .b
+    teco --in-place=in-place=i.x in => => in [] None [true, false, false, false, false, false] None None [None, None] => => in-place=i.x
     teco -i in => => => => none
     teco in => => => => none
-    teco -e EX$$ in -- --in-place=.bak -i.bak => => in [\"--in-place=.bak\", \"-i.bak\"] None [false, false, false, false, false] None None [None, None] => => none
+    teco -e EX$$ in -- --in-place=.bak -i.bak => => in [\"--in-place=.bak\", \"-i.bak\"] None [false, false, false, false, false, false] None None [None, None] => => none
     teco -e --in-place=.bak in => [] Some(\"--in-place=.bak\") => => => none
-    teco -o -i.bak in => => in [] Some(\"-i.bak\") [false, false, false, false, false] None None [None, None] => => none
+    teco -o -i.bak in => => in [] Some(\"-i.bak\") [false, false, false, false, false, false] None None [None, None] => => none
     teco --in-place= in => => => 3
     teco --in-place=a/b in => => => 3
     teco -o out --in-place=.bak in => => => 3
@@ -218,12 +219,14 @@ const ROWS: &str = "
     teco --session s -e EX$$ --check in => => => 3
     teco --session => => => 3
     // Of a setting that is given again the last one stands; commands are not dropped.
-    teco -i -i in => => in [] None [true, false, false, false, false] None None [None, None]
-    teco -qq -i --in-place in => => in [] None [true, false, false, false, true] None None [None, None]
-    teco --limit 5 --limit 10 in => => in [] None [false, false, false, false, false] Some(10) None [None, None]
-    teco --seconds 1 in --seconds=2 => => in [] None [false, false, false, false, false] None Some(2) [None, None]
-    teco --undo 1 --undo 2 --page-lines 3 --page-lines 4 in => => in [] None [false, false, false, false, false] None None [Some(2), Some(4)]
-    teco -o a -ob in => => in [] Some(\"b\") [false, false, false, false, false] None None [None, None]
+    teco -i -i in => => in [] None [true, false, false, false, false, false] None None [None, None]
+    teco --no-sync --no-sync -i in => => in [] None [true, false, false, false, false, true] None None [None, None]
+    teco --no-sync=yes in => => => 3
+    teco -qq -i --in-place in => => in [] None [true, false, false, false, true, false] None None [None, None]
+    teco --limit 5 --limit 10 in => => in [] None [false, false, false, false, false, false] Some(10) None [None, None]
+    teco --seconds 1 in --seconds=2 => => in [] None [false, false, false, false, false, false] None Some(2) [None, None]
+    teco --undo 1 --undo 2 --page-lines 3 --page-lines 4 in => => in [] None [false, false, false, false, false, false] None None [Some(2), Some(4)]
+    teco -o a -ob in => => in [] Some(\"b\") [false, false, false, false, false, false] None None [None, None]
     teco --limit x --limit 5 in => => => 3
     teco --limit 5 --limit x in => => => 3
     teco -p 0K -p 0K in => => => 3

@@ -1,6 +1,6 @@
 //! What is typed and written at streams of commands, and how serving them ends.
 use super::Ticking;
-use crate::tests::bytes::{Screen, are_both, has, is, joined, shown_on};
+use crate::tests::bytes::{Screen, has, is, joined, shown_on};
 use crate::tests::rows::{Cells, Rule, all_hold, cells_of, number_or};
 use crate::tests::session::requests::{Over, Trial, holds_once};
 use crate::tests::step::failed_searches;
@@ -117,7 +117,7 @@ fn are_told(bytes: &[u8], text: &str, untold: &[u8]) -> bool {
 /// Whether a session has the row's output and notes so many strings, if that is said.
 fn is_left(session: &Session, cells: &Cells) -> bool {
     let strings = session.strings() as u64;
-    (is(cells[2], "?") || are_both(session.editor().output(), cells[2].as_bytes()))
+    (is(cells[2], "?") || session.editor().output().are(cells[2].as_bytes()))
         && number_or(cells[7], strings) == strings
 }
 

@@ -12,6 +12,8 @@ pub(super) const ROWS: &str = "
     O\x1b!x!!!2= => 2\r\n => => 3
     Ox\x1b0<!x!1=>!x!2= => 2\r\n => => 3
     Ox\x1b?!x!1= => => TAG => 1
+    // More are made in a loop than are remembered, each eight bytes after the one before it.
+    2<Oa\x1b!a!1=Ob\x1b!b!2=Oc\x1b!c!3=Od\x1b!d!4=Oe\x1b!e!5=> => 1\r\n2\r\n3\r\n4\r\n5\r\n1\r\n2\r\n3\r\n4\r\n5\r\n => => 34
     // So many that the tags of the text are gathered on the way.
     120<Oa\x1b!a!Ob\x1b!b!Oc\x1b!c!Od\x1b!d!Oe\x1b!e!Of\x1b!f!%A>QA=\x1b => 120\r\n => => 964
     120<Oa\x1b!a!Ob\x1b!b!Oc\x1b!c!Od\x1b!d!Oe\x1b!e!Of\x1b!f!%A>Oz\x1b => => TAG => 963

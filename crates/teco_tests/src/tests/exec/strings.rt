@@ -1,6 +1,6 @@
 //! Command strings, run on the editor of a session: what a row asks, how it ends, and how it is tried.
 use super::{block_forms, conditionals, iterations, jumps, page_lines, page_turns};
-use crate::tests::bytes::{Screen, are, are_both, is, is_typed, put};
+use crate::tests::bytes::{Screen, are, is, is_typed, put};
 use crate::tests::commands::FORMS;
 use crate::tests::rows::{Cells, Rule, all_hold, cells_of, halves_at, number_or, text_of};
 use crate::tests::scan::{faults, modifiers};
@@ -42,7 +42,7 @@ pub(crate) fn is_code(code: Option<Code>, letters: &str) -> bool {
 /// nothing of it.
 fn is_written(editor: &Editor, output: &str, code: &str) -> bool {
     output.is_empty()
-        || are_both(editor.output(), text_of(output).as_bytes()) && editor.done() == is(code, "EX")
+        || editor.output().are(text_of(output).as_bytes()) && editor.done() == is(code, "EX")
 }
 
 /// A row, whose text is run.

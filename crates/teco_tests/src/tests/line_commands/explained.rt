@@ -26,8 +26,8 @@ pub(crate) const ROWS: &str = "
     - teco --explain -e EX$$ none => => => teco: cannot read none: there is no such file or folder\n => none.out is not written\n => 1 => in == hi\n
     - teco --explain --limit 2 -e YJJ$$ in => => => => teco: in: --execute:1:3: string 1, step 2, 1:3, J: LIM, 2 steps are done: --limit N allows more\nthe commands ended without EX: in.out is not written\n => 2 => in == hi\n
     - // The clock of a test tells a second more each time.
-    - teco --explain --seconds 3 -e <>$$ in => => => => teco: in: --execute:1:2: string 1, step 512, 1:2, >: LIM, the time of 3 s is over: --seconds N allows more\nthe commands ended without EX: in.out is not written\n => 2 => in == hi\n
-    - teco --explain --seconds 3 --limit 512 -e <>$$ in => => => => teco: in: --execute:1:2: string 1, step 512, 1:2, >: LIM, 512 steps are done: --limit N allows more\nthe commands ended without EX: in.out is not written\n => 2 => in == hi\n
+    - teco --explain --seconds 3 -e <>$$ in => => => => teco: in: --execute:1:2: string 1, step 2, 1:2, >: LIM, the time of 3 s is over: --seconds N allows more\nthe commands ended without EX: in.out is not written\n => 2 => in == hi\n
+    - teco --explain --seconds 3 --limit 2 -e <>$$ in => => => => teco: in: --execute:1:2: string 1, step 2, 1:2, >: LIM, 2 steps are done: --limit N allows more\nthe commands ended without EX: in.out is not written\n => 2 => in == hi\n
     - teco --explain -e <Y>$$ in => => => => teco: in: --execute:1:2: string 1, step 3, 1:2, Y: YCA, page would replace a nonempty buffer\nthe commands ended without EX: in.out is not written\n => 2 => in == hi\n
     - // With a prompt too it is told what each string did, and what is written.
     - teco --explain --prompt -e Y$$C9J$$2{$$}$$EX$$ in => => ***** => => string 1: steps taken 1\nteco: in: --execute:1:6: string 2, step 2, 1:3, J: POP, place outside the buffer\nstring 2: steps taken 3\nstring 3: strings to undo 0, to redo 2\nstring 4: strings to undo 1, to redo 1\nstring 5: steps taken 1\nin.out is written\n => => in == hi\n => in == hi\n ++ in.out == hi\n

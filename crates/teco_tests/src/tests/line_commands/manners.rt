@@ -18,9 +18,12 @@ pub(crate) const ROWS: &str = "
     - // A file of commands as they are is no source: the number of the string is told, and the place in it.
     - teco -b strings in => => => => teco: in: strings: string 2, 2:1: SRH: the search found nothing\n => => in == hi\n ++ strings == Y\x1b\x1b\nSx\x1b\x1bEX\x1b\x1b => in == hi\n ++ strings == Y\x1b\x1b\nSx\x1b\x1bEX\x1b\x1b ++ in.out == hi\n
     - teco -b strings in two => => => => teco: in: strings: string 2, 1:1: SRH: the search found nothing\nteco: two: strings: string 2, 1:1: SRH: the search found nothing\n => 2 => in == hi\n ++ two == two\n ++ strings == Y\x1b\x1bSx\x1b\x1b
+    - teco -b - in => YZ=\x1b\x1bSx\x1b\x1b => 3\r\n => => teco: in: -: string 2, 1:1: SRH: the search found nothing\n => 2 => in == hi\n
     - // A refused undo, redo or rewind is told where it is asked.
     - teco -e Y$$3{$$EX$$ in => => => => teco: in: --execute:1:4: NTU: nothing to undo\n => => in == hi\n => in == hi\n ++ in.out == hi\n
     - teco -b strings in => => => => teco: in: strings: string 2, 1:1: NTR: nothing to redo\n => 2 => in == hi\n ++ strings == Y\x1b\x1b}\x1b\x1b
+    - // What the bytes of a file ask for is undone.
+    - teco -b strings in => => 0\r\n3\r\n => => => => in == hi\n ++ strings == Y\x1b\x1bHKZ=\x1b\x1b{\x1b\x1bZ=\x1b\x1bEX\x1b\x1b => in == hi\n ++ strings == Y\x1b\x1bHKZ=\x1b\x1b{\x1b\x1bZ=\x1b\x1bEX\x1b\x1b ++ in.out == hi\n
     - // Commands that end without EX: that is told, unless an error was, or bytes that were not run.
     - teco -e YHK$$ in => => => => teco: in: not written, the commands ended without EX\n => 2 => in == hi\n
     - teco -e Y$$HKEX in => => => => teco: in: 4 bytes after the last $$ were not run\n => 2 => in == hi\n

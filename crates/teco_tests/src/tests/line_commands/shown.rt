@@ -15,6 +15,7 @@ pub(crate) const ROWS: &str = "
         -o, --output <FILE>      Where the output goes after an exit, - for standard output; without it INPUT.out, or - if INPUT is - or with --pages\n  \
         -i, --in-place           Writes the output over each INPUT\n      \
         --backup <SUFFIX>    The same, and keeps the old file as INPUT with SUFFIX after its name; --in-place=SUFFIX says so too, and -i.bak\n      \
+        --no-sync            Does not wait until each output is on the disk; a crash of the system may leave a part of one\n      \
         --session <FILE>     Keeps what is done in FILE, so that a later run goes on from there, with all that can be undone\n      \
         --check              Prints the faults of the commands, with their places; runs nothing, and reads no INPUT\n      \
         --page-lines <N>     The most lines of a page, at most 1000000000; without it form feeds end pages\n      \

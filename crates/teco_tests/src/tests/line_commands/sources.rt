@@ -40,6 +40,9 @@ pub(crate) const ROWS: &str = "
     - teco -f calls.teco -f none -e EX$$ in => => => teco: cannot read none: there is no such file or folder\n => => 1 => in == hi\n ++ calls.teco == Y MA$$\n
     - teco -b none in => => => teco: cannot read none: there is no such file or folder\n => => 1 => in == hi\n
     - teco -e EX$$ none => => => teco: cannot read none: there is no such file or folder\n => => 1 => in == hi\n
+    - // The bytes of a file are had whole before an INPUT is read: the read that fails is theirs. Those of standard input come as they are needed, and stay where there is no INPUT.
+    - teco -b strings in => => => teco: cannot read strings: a read failed\n => => 1 => in == hi\n ++ strings == YEX\x1b\x1b => => read
+    - teco -b - none => => => teco: cannot read none: there is no such file or folder\n => => 1 => in == hi\n
     - // The commands of a word for every page.
     - teco -p FSi$o$ in => => ho\n\x0cho\n => => => => in == hi\n\x0chi\n
     - teco -p FSi$o$$ -i in => => => => => => in == hi\n => in == ho\n

@@ -1,5 +1,5 @@
 //! Requests of a session, one after another.
-use super::{breaks, exits, failing_terminals, records};
+use super::{breaks, exits, failing_terminals, pages, records};
 use crate::tests::assert_of;
 use crate::tests::bytes::{Screen, are_both, is, is_typed, joined, screen_of, wide_screen};
 use crate::tests::exec::breaks::Asking;
@@ -154,7 +154,7 @@ fn is_told(alloc: Global, session: &Session, told: &str) -> bool {
 /// Whether a session is left as cells of a row say.
 fn is_left(alloc: Global, session: &Session, cells: &Cells) -> bool {
     let editor = session.editor();
-    are_both(editor.output(), cells[2].as_bytes())
+    editor.output().are(cells[2].as_bytes())
         && (cells[3].is_empty() || are_both(editor.halves(), text_of(cells[3]).as_bytes()))
         && (cells[4].is_empty() || is_within(session, number_or(cells[4], 0)))
         && (cells[6].is_empty() || is_told(alloc, session, cells[6]))
@@ -270,8 +270,9 @@ fn plays(alloc: Global, script: &str) -> bool {
     holds_in(alloc, &over, &Script { rows, typed, noted })
 }
 
-static TABLES: [&str; 4] = [
+static TABLES: [&str; 5] = [
     records::SCRIPTS,
+    pages::SCRIPTS,
     breaks::SCRIPTS,
     exits::SCRIPTS,
     failing_terminals::SCRIPTS,

@@ -39,6 +39,28 @@ pub(crate) const ROWS: &str = "
     (:FSa\x1bb\x1b => => MRP
     0+:FSa\x1bb\x1b => => ARG
     0,:FSa\x1bb\x1b => => ARG
+    // So do those that are written otherwise, and names that only begin as theirs.
+    Iaa\x1bJ \nFSa\x1bb\x1bHT => ba
+    Iaa\x1bJfsa\x1bb\x1bHT => ba
+    Iaa\x1bJFsa\x1bb\x1bHT => ba
+    Iaa\x1bJfSa\x1bb\x1bHT => ba
+    Iaa\x1bJ@FS/a/b/HT => ba
+    Iaa\x1bJ2@FS/a/b/HT => ab
+    Iaa\x1bJ:@FS/a/b/= => -1\r\n
+    Iaa\x1bJFSa\x1b\x1b.=HT => 0\r\na
+    Iaa\x1bJFSa\x1b/\nb\x1bHT => /\nba
+    FS\x1ba\x1b => => ISS => 1
+    F => => UTC => 0
+    FS => => UTC => 0
+    FS\x1b => => UTC => 0
+    FSa\x1b => => UTC => 0
+    Iaa\x1bJFSa => => UTC => 2
+    Iaa\x1bJFSa\x1bb => => UTC => 2
+    @F => => UTC => 0
+    FX => => ILL => 0
+    FXa\x1bb\x1b => => ILL => 0
+    F Sa\x1bb\x1b => => ILL => 0
+    F\x1bSa\x1bb\x1b => => ILL => 0
     // The case mode takes its forms.
     ^X => => ARG
     0^X =>

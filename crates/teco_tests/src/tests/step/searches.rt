@@ -35,6 +35,18 @@ pub(crate) const ROWS: &str = "
     // In either case a text without letters is so looked for, also past 127.
     0^XIa1-é\x1bJ:S1-\x1b=.=:Sé\x1b=.= => -1\r\n3\r\n-1\r\n5\r\n
     0^XIaB\x1bJ:SAb\x1b=.= => -1\r\n2\r\n
+    // In either case bytes past 127 match only themselves, though a bit apart as letters are: in a text without letters, beside one, and
+    // in both bytes. So do the bytes around the letters.
+    0^XIé\x1bJ:SÉ\x1b=:Sé\x1b=.= => 0\r\n-1\r\n2\r\n
+    0^XIÉ\x1bJ:Sé\x1b=:SÉ\x1b=.= => 0\r\n-1\r\n2\r\n
+    0^XIaé\x1bJ:SAÉ\x1b=:SAé\x1b=.= => 0\r\n-1\r\n3\r\n
+    0^XIÉa\x1bJ:SéA\x1b=:SÉA\x1b=.= => 0\r\n-1\r\n3\r\n
+    0^XIㄅa\x1bJ:SÄ\x1b=:Sㄅ\x1b=.= => 0\r\n-1\r\n3\r\n
+    0^XIÉaé\x1bJ:Né\x1b=.= => -1\r\n5\r\n
+    0^XIÉaéb\x1b-:SÉA\x1b=.=ZJ-:SéA\x1b= => -1\r\n3\r\n0\r\n
+    0^XIÉé\x1bJFSé\x1be\x1bHT => Ée
+    0^XIÉéé\x1bJ2:Sé\x1b=.=J3:Sé\x1b= => -1\r\n6\r\n0\r\n
+    0^XI@`[{\x1bJ:S`[\x1b=.=J:S{\x1b=.=J:S@`[[\x1b=:S``\x1b= => -1\r\n3\r\n-1\r\n4\r\n0\r\n0\r\n
     // What is found is replaced.
     Icat\x1b0J@FS/a/oa/HT.= => coat3\r\n
     Iabc\x1bJ:FSb\x1bxyz\x1b=HT.= => -1\r\naxyzc4\r\n

@@ -2,7 +2,7 @@
 use crate::tests::bytes::{are, put};
 use std::alloc::Global;
 use teco_core::{CaseMode, Reg};
-use teco_store::{Desk, Editor};
+use teco_store::{Desk, Editor, Slices};
 
 /// How long a text in two halves is, and the text.
 fn put_text(bytes: &mut Vec<u8>, halves: (&[u8], &[u8])) {
@@ -10,6 +10,16 @@ fn put_text(bytes: &mut Vec<u8>, halves: (&[u8], &[u8])) {
     put(bytes, &length.to_le_bytes());
     put(bytes, halves.0);
     put(bytes, halves.1);
+}
+
+/// How long an output is, and its bytes.
+fn put_output(bytes: &mut Vec<u8>, output: Slices<'_>) {
+    put(bytes, &output.len().to_le_bytes());
+    let mut left = output;
+    while let Some((slice, others)) = left.split_first() {
+        put(bytes, slice);
+        left = others;
+    }
 }
 
 fn put_registers(bytes: &mut Vec<u8>, editor: &Editor) {
@@ -51,7 +61,7 @@ pub(crate) fn seen(alloc: Global, editor: &Editor) -> Vec<u8> {
     let mut bytes = Vec::new(alloc);
     put_text(&mut bytes, editor.halves());
     put_registers(&mut bytes, editor);
-    put_text(&mut bytes, editor.output());
+    put_output(&mut bytes, editor.output());
     put_shown(alloc, &mut bytes, editor);
     bytes
 }
