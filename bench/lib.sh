@@ -34,6 +34,7 @@ build() {
 command_of() {
     case $1 in
         rust) echo rustc ;;
+        whole) echo cc ;;
         other) echo "${OTHER:-no other build, which OTHER would name}" ;;
         run | script) echo sh ;;
         *) echo "$1" ;;
@@ -56,8 +57,10 @@ programs_of() {
 #   measure NAME once|twice PROGRAM
 measure() {
     rm -f out
+    "$BENCH/lines/$1" begin
     bash -c 'TIMEFORMAT="%3U %3S"; time /usr/bin/time -q -o peak -f %M "$@" > typed 2> errors' bench \
         "$BENCH/lines/$1" "$3" 2> spent || { say "$1: $3 has failed"; cat errors >&2; exit 2; }
+    "$BENCH/lines/$1" end
     echo "$1 $2 $3 $(cat spent) $(tail -n 1 peak)" >> "$work/times"
 }
 
@@ -100,41 +103,84 @@ rounds() {
     rm -r "$work/line"
 }
 
-# Whether twice the work took the program more than 2.2 times as long, and callgrind is there to tell whether that is noise.
-grows_too_much() {
-    command -v valgrind > /dev/null || return 1
+# Whether instructions can be counted; that they can't is told once.
+can_count() {
+    command -v valgrind > /dev/null && return 0
+    [ -n "${told-}" ] || say 'no instruction is counted, since valgrind is not installed'
+    told=yes
+    return 1
+}
+
+# Whether the times of a line don't tell that twice the work took the program at most 2.2 times as long: they are more, or too short.
+is_growth_open() {
     awk -v name="$1" '
         $1 == name && $3 == "teco" && !($2 in least && least[$2] < $4 + $5) { least[$2] = $4 + $5 }
-        END { exit !(least["once"] >= 0.02 && least["twice"] > 2.2 * least["once"]) }' "$work/times"
+        END { exit !("once" in least && (least["once"] < 0.02 || least["twice"] > 2.2 * least["once"])) }' "$work/times"
 }
 
-# A script that runs a program under callgrind.
-counting() {
-    printf '#!/bin/sh\nexec valgrind --tool=callgrind --callgrind-out-file=/dev/null %s "$@"\n' "$1"
+# Callgrind, which counts a byte of a `rep` as an instruction: so the C library is told to fill and copy blocks without one.
+callgrind() {
+    GLIBC_TUNABLES=glibc.cpu.x86_rep_movsb_threshold=1000000000:glibc.cpu.x86_rep_stosb_threshold=1000000000 \
+        valgrind --tool=callgrind --callgrind-out-file=/dev/null "$@"
 }
 
-# Notes how many instructions the program takes for a line.
-#   count NAME once|twice
+# Notes how many instructions programs of a line take, with those of their children and of the shell, and the program's system calls.
+#   count NAME SIZE PROGRAM..
 count() {
+    line=$1 size=$2
+    shift 2
     mkdir "$work/line"
     cd "$work/line"
-    "$BENCH/lines/$1" make
-    counting "$TECO" > teco.counted
-    counting "$TECOL" > tecol.counted
-    chmod +x teco.counted tecol.counted
-    TECO=./teco.counted TECOL=./tecol.counted "$BENCH/lines/$1" teco > typed 2> counted ||
-        { say "$1: it could not be counted"; cat counted >&2; exit 2; }
-    echo "$1 $2 $(sed -n 's/.* Collected : //p' counted | tail -n 1)" >> "$work/instructions"
+    "$BENCH/lines/$line" make
+    for program in "$@"; do
+        rm -f out counted.*
+        "$BENCH/lines/$line" begin
+        callgrind --trace-children=yes --log-file=counted.%p "$BENCH/lines/$line" "$program" > typed 2> errors ||
+            { say "$line: $program could not be counted"; cat errors >&2; exit 2; }
+        taken=$(cat counted.* | awk '/Collected :/ { n += $4 } END { printf "%.0f", n }')
+        calls=-
+        case "$program $size" in
+            'teco little' | 'teco more') calls=$(calls_of "$line") ;;
+        esac
+        echo "$line $size $program $taken $calls $("$BENCH/lines/$line" counted)" >> "$work/counts"
+    done
     cd /
     rm -r "$work/line"
 }
 
-# Counts a line of both sizes. WORK is that of the second.
-count_both() {
+# The system calls of the program in a line; `-` without strace.
+calls_of() {
+    command -v strace > /dev/null || { echo -; return; }
+    printf '#!/bin/sh\nexec strace -f -qq -A -o "$PWD/calls" %s "$@"\n' "$TECO" > traced
+    chmod +x traced
+    : > calls
+    "$BENCH/lines/$1" begin
+    TECO=./traced "$BENCH/lines/$1" teco > typed 2> errors || { say "$1: its system calls could not be counted"; cat errors >&2; exit 2; }
+    wc -l < calls
+}
+
+# Counts the programs of a line at two small sizes, but for ed and vim, which callgrind makes too slow; and the program at both sizes that
+# were timed, if the times tell too little.
+count_line() {
+    can_count || return 0
+    counted=$("$BENCH/lines/$1" counted)
+    [ -n "$counted" ] || return 0
     say "$1, counted by callgrind"
-    count "$1" twice
-    export WORK=$((WORK / 2))
-    count "$1" once
+    timed=$WORK
+    export WORK="${counted%% *}"
+    programs=$(programs_of "$1" 2> /dev/null | grep -vx -e ed -e vim)
+    count "$1" little $programs
+    export WORK=$((WORK * 2))
+    count "$1" more $programs
+    case $counted in
+        *' no '*) return 0 ;;
+    esac
+    if is_growth_open "$1"; then
+        export WORK="$timed"
+        count "$1" once teco
+        export WORK=$((timed * 2))
+        count "$1" twice teco
+    fi
 }
 
 # The kilobytes that the program takes over an empty file.

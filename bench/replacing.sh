@@ -5,6 +5,7 @@ before=
 peers='perl sed other'
 goals='user perl 0.7'
 hits=$(scaled 82883)
+unit='a hit' units=$hits
 
 make() {
     perl "$BENCH/text.pl" "$hits" > in

@@ -2,9 +2,15 @@
 # A line sets `options`, what tecol is given, and `form`, `source` or `bytes`, which is what `in` has.
 . "$BENCH/line.sh"
 peers=script
+lines=$(scaled 18000)
+unit='a line' units=$lines
+
+why_not() {
+    [ -x "$TECOL" ] || echo "$TECOL is not there, or where TECOL says"
+}
 
 make() {
-    perl -e 'print((q(<FScolour$color$;> .-QB"N 0L.UB |L) . chr(39) . q( %A$ !! the line of each) . "\n") x $ARGV[0], "EX\$\$\n")' "$(scaled 18000)" > in
+    perl -e 'print((q(<FScolour$color$;> .-QB"N 0L.UB |L) . chr(39) . q( %A$ !! the line of each) . "\n") x $ARGV[0], "EX\$\$\n")' "$lines" > in
     [ "$form" = source ] || { "$BENCH/peers/tecol" < in > bytes && mv bytes in; }
 }
 
