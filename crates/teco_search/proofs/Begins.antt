@@ -27,6 +27,7 @@ ready_backward mode bytes search is ready = subst IsReadyBackward is ready
 -- There is something to look for.
 pub ready_some : (search : Forward) → IsReadyForward search → 0 < length (sought_forward search).elements
 ready_some (forwards.Literal mode bytes) ready = omega (arith, ready.some, length-map bytes plain)
+ready_some (forwards.Bytes mode bytes anchor) ready = omega (arith, ready.within)
 ready_some (forwards.Elements mode es anchor) ready = omega (arith, ready.within)
 
 pub ready_some_backward : (search : Backward) → IsReadyBackward search → 0 < length (sought_backward search).elements

@@ -11,6 +11,7 @@ pub mod Windows
 pub mod Begins
 pub mod Numbered
 pub mod Plain
+pub mod PlainBytes
 pub mod Laws
 pub mod Fronts
 pub mod ReadIsSpelled

@@ -5,12 +5,11 @@ use Rattle.std.specs.List.{list_all}
 use Rattle.std.proofs.lemmas.Bool.{and_from, and_parts, not-true}
 use Rattle.std.proofs.lemmas.List.{length-map}
 use Rattle.std.proofs.lemmas.List.Elements.{All-nil, All-cons}
-use Rattle.teco_core.specs.declared.case_mode.CaseMode.{CaseMode}
 use Rattle.teco_core.specs.declared.case_mode.CaseMode.TheVariants.{Exact}
 use Rattle.teco_search.specs.declared.element.SetItem.TheVariants.{Byte}
 use Rattle.teco_search.specs.declared.element.OneByte.TheVariants.{Single}
 use Rattle.teco_search.specs.Law.{ReadsAsItself, MatchesWhereItIs}
-use Rattle.teco_search.specs.Literal.{plain, is_exact, stands_for_itself}
+use Rattle.teco_search.specs.Literal.{plain, is_exact}
 use Rattle.teco_search.specs.Reading.{read}
 use Rattle.teco_search.specs.Spelling.{SpellsItem, SpellsOne, SpellsElement, Spells, is_control}
 use Rattle.teco_search.proofs.Literals.{literal_hit, literal_only}
@@ -39,25 +38,14 @@ matches_where_it_is bytes text p q some = (
   λ there. rw there.1 (literal_hit Exact text bytes p (all_exact bytes) there.0),
 )
 
--- Bytes that stand for themselves alone are no controls, and admit no others; and the other way round.
-module _ (mode : CaseMode) where
-  pub no_controls : (bytes : List ℕ) → list_all (stands_for_itself mode) bytes ≡ true → All (λ b. is_control b ≡ false) bytes
-  no_controls [] each = All-nil (λ b. is_control b ≡ false)
-  no_controls (b ∷ bs) each =
-      let parts = and_parts (stands_for_itself mode b) (list_all (stands_for_itself mode) bs) each in
-      let here = and_parts (not (is_control b)) (is_exact mode b) parts.0 in
-      All-cons (λ c. is_control c ≡ false) b bs (not-true (is_control b) here.0) (no_controls bs parts.1)
+-- Each byte is no control.
+pub no_controls : (bytes : List ℕ) → list_all (λ b. not (is_control b)) bytes ≡ true → All (λ b. is_control b ≡ false) bytes
+no_controls [] each = All-nil (λ b. is_control b ≡ false)
+no_controls (b ∷ bs) each =
+    let parts = and_parts (not (is_control b)) (list_all (λ c. not (is_control c)) bs) each in
+    All-cons (λ c. is_control c ≡ false) b bs (not-true (is_control b) parts.0) (no_controls bs parts.1)
 
-  pub no_others : (bytes : List ℕ) → list_all (stands_for_itself mode) bytes ≡ true → list_all (is_exact mode) bytes ≡ true
-  no_others [] each = refl
-  no_others (b ∷ bs) each =
-      let parts = and_parts (stands_for_itself mode b) (list_all (stands_for_itself mode) bs) each in
-      let here = and_parts (not (is_control b)) (is_exact mode b) parts.0 in
-      and_from (is_exact mode b) (list_all (is_exact mode) bs) here.1 (no_others bs parts.1)
-
-  pub each_stands : (bytes : List ℕ) → list_all (is_exact mode) bytes ≡ true → All (λ b. is_control b ≡ false) bytes → list_all (stands_for_itself mode) bytes ≡ true
-  each_stands [] exact free = refl
-  each_stands (b ∷ bs) exact free =
-      let parts = and_parts (is_exact mode b) (list_all (is_exact mode) bs) exact in
-      let here : stands_for_itself mode b ≡ true = and_from (not (is_control b)) (is_exact mode b) (ap not (free 0 b (omega arith))) parts.0 in
-      and_from (stands_for_itself mode b) (list_all (stands_for_itself mode) bs) here (each_stands bs parts.1 (λ k d below. free (suc k) d (omega arith)))
+pub all_free : (bytes : List ℕ) → All (λ b. is_control b ≡ false) bytes → list_all (λ b. not (is_control b)) bytes ≡ true
+all_free [] free = refl
+all_free (b ∷ bs) free =
+    and_from (not (is_control b)) (list_all (λ c. not (is_control c)) bs) (ap not (free 0 b (omega arith))) (all_free bs (λ k d below. free (suc k) d (omega arith)))

@@ -1,5 +1,5 @@
 -- Search texts of bytes alone.
-use Rattle.std.specs.Prelude.{◌≡◌, ℕ, ◌<◌, Bool, true, false, not, ◌&&◌, List, length, All}
+use Rattle.std.specs.Prelude.{◌≡◌, ℕ, ◌<◌, Bool, true, false, not, List, length, All}
 use Rattle.std.specs.List.{list_all}
 use Rattle.teco_core.specs.declared.case_mode.CaseMode.{CaseMode}
 use Rattle.teco_core.specs.declared.case_mode.CaseMode.TheVariants.{Exact, Either}
@@ -24,11 +24,7 @@ pub record IsLiteral (mode : CaseMode) (bytes : List ℕ) : Type 0 where
   pub some : 0 < length bytes
   pub exact : list_all (is_exact mode) bytes ≡ true
 
--- whether a byte of a search text is no control, and itself admits no other
-abbrev pub stands_for_itself : CaseMode → ℕ → Bool
-stands_for_itself mode b = not (is_control b) && is_exact mode b
-
--- A search text that is looked for as it stands: a literal, none of whose bytes is a control.
-pub record IsPlain (mode : CaseMode) (text : List ℕ) : Type 0 where
-  pub literal : IsLiteral mode text
+-- A search text that is looked for as it stands: it has a byte, and none of its bytes is a control.
+pub record IsPlain (text : List ℕ) : Type 0 where
+  pub some : 0 < length text
   pub free : All (λ b. is_control b ≡ false) text

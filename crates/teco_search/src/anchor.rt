@@ -1,13 +1,14 @@
 //! The byte of a match that is looked for first.
-ghost use Rattle.std.specs.Prelude.{◌≡◌, ◌<◌, ℕ, Some, length, slice_get};
+ghost use Rattle.std.specs.Prelude.{◌≡◌, ◌<◌, ℕ, Some, length, map, slice_get};
 ghost use Rattle.teco_search.specs.Anchor.{AreSingle, IsAnchored, begins};
 ghost use Rattle.teco_search.specs.ByteSet.{contains};
 ghost use Rattle.teco_search.specs.Element.{item_admits};
+ghost use Rattle.teco_search.specs.Literal.{plain};
 
 use crate::byte_set::ByteSet;
 use crate::byte_table::{others, table_of};
 use crate::element::{Element, OneByte, SetItem, both_cases, is_exact};
-use crate::frequency::frequency;
+use crate::frequency::{frequency, frequency_of_item};
 use teco_core::CaseMode;
 
 /// A place at a known distance from the start of each match, and the bytes that may be there.
@@ -71,6 +72,23 @@ fn rarest(mode: CaseMode, elements: &[Element]) -> usize
     rarest
 }
 
+/// Which of some bytes is likely the rarest.
+fn rarest_byte(mode: CaseMode, bytes: &[u8]) -> usize
+    requires { 0 < length bytes.now }
+    ensures { result < length bytes.now }
+{
+    let mut rarest = 0;
+    let mut least = u32::MAX;
+    'offsets: for (offset, byte) in bytes.iter().enumerate() {
+        let frequency = frequency_of_item(mode, SetItem::Byte(*byte));
+        if frequency < least {
+            rarest = offset;
+            least = frequency;
+        }
+    }
+    rarest
+}
+
 impl Anchor {
     /// The anchor of some elements at the one whose bytes are rarest, as far as they can be guessed.
     pub(crate) fn of(mode: CaseMode, elements: &[Element]) -> Anchor
@@ -81,6 +99,17 @@ impl Anchor {
         Anchor {
             offset,
             bytes: beginnings(mode, &elements[offset]),
+        }
+    }
+    /// The anchor of bytes that are looked for as they stand, at the one that is likely the rarest.
+    pub(crate) fn of_bytes(mode: CaseMode, bytes: &[u8]) -> Anchor
+        requires { 0 < length bytes.now }
+        ensures { IsAnchored mode (map plain bytes.now) result }
+    {
+        let offset = rarest_byte(mode, bytes);
+        Anchor {
+            offset,
+            bytes: bytes_of(mode, SetItem::Byte(bytes[offset])),
         }
     }
 }

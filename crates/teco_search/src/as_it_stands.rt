@@ -1,54 +1,73 @@
 //! Search texts that are looked for as they stand.
-ghost use Rattle.std.specs.Prelude.{◌≡◌, ◌↔◌, ◌++◌, ◌<◌, ◌≤◌, length, map, pos, IfSome, IsTrue, Ok};
+ghost use Rattle.std.specs.Prelude.{◌≡◌, ◌↔◌, ◌++◌, ◌<◌, ◌≤◌, ◌<ℤ◌, length, map, not, pos, IfOk, IfSome, IsOk, IsTrue, Ok};
 ghost use Rattle.std.specs.List.{list_all};
-ghost use Rattle.teco_core.specs.declared.case_mode.CaseMode.{CaseMode};
-ghost use Rattle.teco_search.specs.Literal.{plain, stands_for_itself, IsLiteral, IsPlain};
+ghost use Rattle.teco_search.specs.Literal.{plain, is_exact, IsLiteral, IsPlain};
 ghost use Rattle.teco_search.specs.Occurrence.{looked_for, occurrence};
 ghost use Rattle.teco_search.specs.Reading.{read};
+ghost use Rattle.teco_search.specs.Spelling.{is_control};
 
+use crate::anchor::Anchor;
 use crate::element::is_exact;
 use crate::joined::Joined;
-use crate::literal;
+use crate::patience::{Asker, GivenUp, Patience};
 use crate::reading::is_control;
+use crate::search::{Forward, nth_forward};
 use memchr::memmem::Finder;
 use teco_core::CaseMode;
 
-/// Whether a byte of a search text stands for itself alone.
-#[inline(always)]
-fn stands_for_itself(mode: CaseMode, byte: u8) -> bool
-    ensures { result ≡ stands_for_itself mode byte }
+/// Whether no byte of a search text is a control.
+fn has_no_control(text: &[u8]) -> bool
+    ensures { result ≡ list_all (λ b. not (is_control b)) text.now }
 {
-    !is_control(byte) && is_exact(mode, byte)
+    text.iter().all(|byte| !is_control(*byte))
 }
 
-/// Whether each byte of a search text stands for itself alone.
-fn all_stand(text: &[u8], mode: CaseMode) -> bool
-    ensures { result ≡ list_all (stands_for_itself mode) text.now }
+/// Whether each byte admits itself alone.
+fn all_exact(bytes: &[u8], mode: CaseMode) -> bool
+    ensures { result ≡ list_all (is_exact mode) bytes.now }
 {
-    text.iter().all(|byte| stands_for_itself(mode, *byte))
+    bytes.iter().all(|byte| is_exact(mode, *byte))
 }
 
-/// Whether a search text is looked for as it stands: it has a byte, and each of its bytes stands for itself alone.
-pub fn is_plain(text: &[u8], mode: CaseMode) -> bool
-    ensures plain { IsTrue result ↔ IsPlain mode text.now }
+/// Whether a search text is looked for as it stands: it has a byte, and none of its bytes is a control.
+pub fn is_plain(text: &[u8]) -> bool
+    ensures plain { IsTrue result ↔ IsPlain text.now }
     ensures read { IsTrue result → read text.now ≡ Ok (map plain text.now) }
 {
-    !text.is_empty() && all_stand(text, mode)
+    !text.is_empty() && has_no_control(text)
 }
 
-/// The first place at or after one where the text that the two halves are together has these bytes, as its start and its end. Takes no memory.
+/// The nth place at or after one where the text that the two halves are together has these bytes, as its start and its end. Takes no memory.
 ///
-/// So it is the first occurrence of a search text that [`is_plain`], where no pattern was read.
-pub fn find_plain(bytes: &[u8], halves: (&[u8], &[u8]), from: usize) -> Option<(usize, usize)>
+/// So it is the nth occurrence of a search text that [`is_plain`], where no pattern was read. It may give up where patience has ended, but
+/// not if each byte admits itself alone.
+pub fn find_plain<P: Patience>(
+    bytes: &[u8],
+    mode: CaseMode,
+    halves: (&[u8], &[u8]),
+    from: usize,
+    n: i32,
+    patience: &P,
+) -> Result<Option<(usize, usize)>, GivenUp>
     requires some { 0 < length bytes.now }
     requires within { from ≤ length (halves.0.now ++ halves.1.now) }
-    ensures value { (mode : CaseMode) → IsLiteral mode bytes.now → result
-        ≡ occurrence (looked_for mode (map plain bytes.now)) (halves.entry.0.now ++ halves.entry.1.now) from
-        (pos 1) }
-    ensures within { IfSome result (λ m. (m.0 < m.1)
-        × (m.1 ≤ length (halves.entry.0.now ++ halves.entry.1.now))) }
+    requires forward { pos 0 <ℤ n }
+    ensures value { IfOk result (λ found. found ≡ occurrence (looked_for mode (map plain bytes.now))
+        (halves.entry.0.now ++ halves.entry.1.now) from n) }
+    ensures within { IfOk result (λ found. IfSome found (λ m. (m.0 < m.1)
+        × (m.1 ≤ length (halves.entry.0.now ++ halves.entry.1.now)))) }
+    ensures steady { IsLiteral mode bytes.now → IsOk result }
 {
     let text = Joined::new(halves.0, halves.1);
-    let start = literal::first_from(&Finder::new(bytes), &text, from)?;
-    Some((start, start + bytes.len()))
+    let mut asker = Asker::new(patience);
+    let n = n.unsigned_abs();
+    if all_exact(bytes, mode) {
+        let search = Forward::Literal(mode, Finder::new(bytes));
+        let told = nth_forward(&search, &text, from, n, &mut asker)?;
+        return Ok(told.ok());
+    }
+    let anchor = Anchor::of_bytes(mode, bytes);
+    let search = Forward::Bytes(mode, bytes, &anchor);
+    let told = nth_forward(&search, &text, from, n, &mut asker)?;
+    Ok(told.ok())
 }

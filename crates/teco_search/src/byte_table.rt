@@ -1,11 +1,18 @@
-//! Tables that tell of each byte whether it may be here. The table of a list is made item by item.
+//! Tables that tell of each byte whether it may be here. Those of a list are made item by item, once.
 ghost use Rattle.std.specs.Prelude.{◌≡◌, ◌<◌, ◌==◌, ℕ, not};
 ghost use Rattle.std.specs.List.{list_any};
-ghost use Rattle.teco_search.specs.ByteSet.{Adds, in_table};
+ghost use Rattle.teco_search.specs.ByteSet.{Adds, AreTablesOf, in_table, table_in};
 ghost use Rattle.teco_search.specs.Element.{admits, is_in, item_admits};
 
 use crate::element::{Class, OneByte, SetItem, both_cases, is_exact};
 use teco_core::CaseMode;
+
+/// The bytes that a list admits, for each case mode.
+#[derive(Clone, Copy)]
+pub(crate) struct Tables {
+    exact: [bool; 256],
+    either: [bool; 256],
+}
 
 /// Adds a byte to a table.
 fn add_byte(table: &mut [bool; 256], byte: u8)
@@ -52,6 +59,29 @@ fn table_of_items(mode: CaseMode, items: &[SetItem]) -> [bool; 256]
     table
 }
 
+impl Tables {
+    /// The tables of a list of items.
+    pub(crate) fn of(items: &[SetItem]) -> Tables
+        ensures { AreTablesOf result items.now }
+    {
+        Tables {
+            exact: table_of_items(CaseMode::Exact, items),
+            either: table_of_items(CaseMode::Either, items),
+        }
+    }
+
+    /// The table of a case mode.
+    #[inline]
+    pub(crate) fn in_mode(&self, mode: CaseMode) -> &[bool; 256]
+        ensures { result.now ≡ table_in mode self.now }
+    {
+        match mode {
+            CaseMode::Exact => &self.exact,
+            CaseMode::Either => &self.either,
+        }
+    }
+}
+
 /// The table of the bytes that are admitted here.
 #[tactic(auto, unfolding(crate::specs::Element::admits))]
 pub(crate) fn table_of(mode: CaseMode, one: &OneByte) -> [bool; 256]
@@ -59,7 +89,7 @@ pub(crate) fn table_of(mode: CaseMode, one: &OneByte) -> [bool; 256]
 {
     match one {
         OneByte::Single(item) => table_of_items(mode, &[*item]),
-        OneByte::Listed(items) => table_of_items(mode, items.as_slice()),
+        OneByte::Listed(items) => *items.table(mode),
     }
 }
 

@@ -1,14 +1,17 @@
 //! The elements of a search text, and which bytes they admit.
-ghost use Rattle.std.specs.Prelude.{◌≡◌, ◌↔◌, ◌||◌, ◌==◌, ℕ, false, IsTrue, Some};
+ghost use Rattle.std.specs.Prelude.{◌≡◌, ◌↔◌, ◌<◌, ◌||◌, ◌==◌, ℕ, false, IsTrue, IfOk, IfErr, Some};
 ghost use Rattle.std.specs.List.{list_any};
 ghost use Rattle.teco_search.specs.Anchor.{begins};
+ghost use Rattle.teco_search.specs.ByteSet.{in_table};
 ghost use Rattle.teco_search.specs.Element.{is_blank, is_in, is_same, item_admits, admits};
 ghost use Rattle.teco_search.specs.Literal.{is_exact};
 ghost use Rattle.teco_search.specs.Shown.{shown_class, shown_element, shown_item, shown_items, shown_one};
 
+use crate::byte_table::Tables;
+use std::alloc::Global;
 use std::fmt::{self, Display};
 use std::marker::Model;
-use teco_core::{CaseMode, is_line_end};
+use teco_core::{CaseMode, Code, is_line_end};
 
 /// A kind of bytes. Letters and digits are those of ASCII.
 #[derive(Clone, Copy)]
@@ -34,9 +37,12 @@ pub enum SetItem {
 }
 
 /// The items of a list. What is read has at least one.
+///
+/// Its tables tell of a byte at once whether an item admits it, however many items there are.
 #[derive(Drop)]
 pub struct Items {
     items: Vec<SetItem>,
+    tables: Box<Tables>,
 }
 
 impl Model for Items {
@@ -45,7 +51,11 @@ impl Model for Items {
 
     ghost Value = { List SetItem };
 
+    ghost use Rattle.teco_search.specs.ByteSet.{AreTablesOf};
+
     ghost view = { λ i. i.items.items };
+
+    ghost invariant = { λ i. AreTablesOf i.tables.value i.items.items };
 }
 
 /// One item, or a list of them.
@@ -131,10 +141,14 @@ impl SetItem {
 
 impl Items {
     /// A list of these items.
-    pub(crate) fn new(items: Vec<SetItem>) -> Self
-        ensures { result ≡ items.items }
+    pub(crate) fn new(alloc: Global, items: Vec<SetItem>) -> Result<Items, Code>
+        ensures ok { IfOk result (λ list. list ≡ items.items) }
+        ensures err { IfErr result (λ e. e ≡ Code.Mem) }
     {
-        Items { items }
+        match Box::new(alloc, Tables::of(&items)) {
+            Ok(tables) => Ok(Items { items, tables }),
+            Err(_) => Err(Code::Mem),
+        }
     }
 
     pub(crate) fn as_slice(&self) -> &[SetItem]
@@ -143,11 +157,20 @@ impl Items {
         self.items.as_slice()
     }
 
+    /// The table of the bytes that one of the items admits.
+    #[inline]
+    pub(crate) fn table(&self, mode: CaseMode) -> &[bool; 256]
+        ensures { (b : ℕ) → b < 256 → in_table result.now b ≡ list_any (λ i. item_admits mode i b) self.now }
+    {
+        self.tables.in_mode(mode)
+    }
+
     /// Whether one of the items admits a byte.
+    #[inline]
     pub(crate) fn admit(&self, mode: CaseMode, byte: u8) -> bool
         ensures { result ≡ list_any (λ i. item_admits mode i byte) self.now }
     {
-        self.items.iter().any(|item| item.admits(mode, byte))
+        self.table(mode)[usize::from(byte)]
     }
 }
 

@@ -42,7 +42,8 @@ fn frequency_of_class(class: Class) -> u32
     }
 }
 
-fn frequency_of_item(mode: CaseMode, item: SetItem) -> u32
+/// About how many of a thousand bytes an item admits.
+pub(crate) fn frequency_of_item(mode: CaseMode, item: SetItem) -> u32
     ensures { result ≤ 1000 }
 {
     match item {

@@ -55,18 +55,21 @@ pub(crate) fn element_end(
     }
 }
 
-/// The end of the elements' match at a place, one after the other.
+/// The end of the elements' match at a place, one after the other, if they have one; and how far they matched.
 pub(crate) fn match_end(
     mode: CaseMode,
     elements: &[Element],
     text: &Joined,
     at: usize,
-) -> Option<usize>
-    ensures { result ≡ match_end mode elements.now text.now at }
+) -> (Option<usize>, usize)
+    ensures { result.0 ≡ match_end mode elements.now text.now at }
 {
     let mut place = at;
     'elements: for element in elements {
-        place = element_end(mode, element, text, place)?;
+        let Some(end) = element_end(mode, element, text, place) else {
+            return (None, place);
+        };
+        place = end;
     }
-    Some(place)
+    (Some(place), place)
 }

@@ -13,6 +13,7 @@ use crate::anchor::Anchor;
 use crate::element::{Element, SetItem};
 use crate::joined::Joined;
 use crate::matching::match_end;
+use crate::patience::{Asker, GivenUp, Patience};
 use crate::reading::{literal, read};
 use crate::search::{Backward, Forward, count_forward, nth_backward, nth_forward};
 use memchr::memmem::{Finder, FinderRev};
@@ -122,7 +123,7 @@ pub fn matches_at(pattern: &Pattern, halves: (&[u8], &[u8]), at: usize) -> Optio
                 None
             }
         }
-        Form::Elements(elements, _) => match_end(pattern.mode, elements, &text, at),
+        Form::Elements(elements, _) => match_end(pattern.mode, elements, &text, at).0,
     }
 }
 
@@ -149,59 +150,92 @@ impl Pattern {
 }
 
 /// The nth occurrence from a place of the text that the two halves are together, as its start and its end; backward for a negative n. Takes no memory.
-pub fn find(
+///
+/// It may give up where patience has ended.
+pub fn find<P: Patience>(
     pattern: &Pattern,
     halves: (&[u8], &[u8]),
     from: usize,
     n: i32,
-) -> Option<(usize, usize)>
+    patience: &P,
+) -> Result<Option<(usize, usize)>, GivenUp>
     requires within { from ≤ length (halves.0.now ++ halves.1.now) }
     requires some { n ≢ pos 0 }
-    ensures value { result ≡ occurrence pattern.now (halves.entry.0.now ++ halves.entry.1.now) from n }
-    ensures within { IfSome result (λ m. (m.0 < m.1)
-        × (m.1 ≤ length (halves.entry.0.now ++ halves.entry.1.now))) }
-    ensures next { n ≡ pos 1 → FindsNext pattern.now (halves.entry.0.now ++ halves.entry.1.now) from result }
-    ensures last { n ≡ negsuc 0 → FindsLastBy pattern.now
-        (halves.entry.0.now ++ halves.entry.1.now) from result }
+    ensures value { IfOk result (λ found. found
+        ≡ occurrence pattern.now (halves.entry.0.now ++ halves.entry.1.now) from n) }
+    ensures within { IfOk result (λ found. IfSome found (λ m. (m.0 < m.1)
+        × (m.1 ≤ length (halves.entry.0.now ++ halves.entry.1.now)))) }
+    ensures next { IfOk result (λ found. n ≡ pos 1
+        → FindsNext pattern.now (halves.entry.0.now ++ halves.entry.1.now) from found) }
+    ensures last { IfOk result (λ found. n ≡ negsuc 0
+        → FindsLastBy pattern.now (halves.entry.0.now ++ halves.entry.1.now) from found) }
 {
     if n > 0 {
-        return find_forward(pattern, halves, from, n).ok();
+        let told = find_forward(pattern, halves, from, n, patience)?;
+        return Ok(told.ok());
     }
     let text = Joined::new(halves.0, halves.1);
-    nth_backward(&pattern.backward(), &text, from, n.unsigned_abs())
+    let mut asker = Asker::new(patience);
+    nth_backward(
+        &pattern.backward(),
+        &text,
+        from,
+        n.unsigned_abs(),
+        &mut asker,
+    )
 }
 
 /// The nth occurrence forward from a place of the text that the two halves are together, as its start and its end; or, where there are
 /// fewer, how many of the n are wanted still. The text is passed once. Takes no memory.
-pub fn find_forward(
+///
+/// It may give up where patience has ended.
+pub fn find_forward<P: Patience>(
     pattern: &Pattern,
     halves: (&[u8], &[u8]),
     from: usize,
     n: i32,
-) -> Result<(usize, usize), i32>
+    patience: &P,
+) -> Result<Result<(usize, usize), i32>, GivenUp>
     requires within { from ≤ length (halves.0.now ++ halves.1.now) }
     requires some { pos 0 <ℤ n }
-    ensures value { result_ok result
-        ≡ occurrence pattern.now (halves.entry.0.now ++ halves.entry.1.now) from n }
-    ensures within { IfOk result (λ m. (m.0 < m.1)
-        × (m.1 ≤ length (halves.entry.0.now ++ halves.entry.1.now))) }
-    ensures next { n ≡ pos 1 → FindsNext pattern.now (halves.entry.0.now ++ halves.entry.1.now) from
-        (result_ok result) }
-    ensures fewer { IfErr result (λ wanted. wanted
-        ≡ n -ℤ pos (length (forward pattern.now (halves.entry.0.now ++ halves.entry.1.now) from))) }
+    ensures value { IfOk result (λ told. result_ok told
+        ≡ occurrence pattern.now (halves.entry.0.now ++ halves.entry.1.now) from n) }
+    ensures within { IfOk result (λ told. IfOk told (λ m. (m.0 < m.1)
+        × (m.1 ≤ length (halves.entry.0.now ++ halves.entry.1.now)))) }
+    ensures next { IfOk result (λ told. n ≡ pos 1
+        → FindsNext pattern.now (halves.entry.0.now ++ halves.entry.1.now) from (result_ok told)) }
+    ensures fewer { IfOk result (λ told. IfErr told (λ wanted. wanted
+        ≡ n -ℤ pos (length (forward pattern.now (halves.entry.0.now ++ halves.entry.1.now) from)))) }
 {
     let text = Joined::new(halves.0, halves.1);
-    match nth_forward(&pattern.forward(), &text, from, n.unsigned_abs()) {
-        Ok(found) => Ok(found),
-        Err(wanted) => Err(wanted as i32),
+    let mut asker = Asker::new(patience);
+    let told = nth_forward(
+        &pattern.forward(),
+        &text,
+        from,
+        n.unsigned_abs(),
+        &mut asker,
+    )?;
+    match told {
+        Ok(found) => Ok(Ok(found)),
+        Err(wanted) => Ok(Err(wanted as i32)),
     }
 }
 
 /// How many occurrences there are forward from a place, which may be after the end. Takes no memory.
-pub fn count(pattern: &Pattern, halves: (&[u8], &[u8]), from: usize) -> usize
-    ensures value { result ≡ length (forward pattern.now (halves.entry.0.now ++ halves.entry.1.now) from) }
-    ensures past { length (halves.entry.0.now ++ halves.entry.1.now) ≤ from → result ≡ 0 }
+///
+/// It may give up where patience has ended.
+pub fn count<P: Patience>(
+    pattern: &Pattern,
+    halves: (&[u8], &[u8]),
+    from: usize,
+    patience: &P,
+) -> Result<usize, GivenUp>
+    ensures value { IfOk result (λ n. n
+        ≡ length (forward pattern.now (halves.entry.0.now ++ halves.entry.1.now) from)) }
+    ensures past { IfOk result (λ n. length (halves.entry.0.now ++ halves.entry.1.now) ≤ from → n ≡ 0) }
 {
     let text = Joined::new(halves.0, halves.1);
-    count_forward(&pattern.forward(), &text, from)
+    let mut asker = Asker::new(patience);
+    count_forward(&pattern.forward(), &text, from, &mut asker)
 }

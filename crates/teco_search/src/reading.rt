@@ -138,7 +138,8 @@ fn items_at(alloc: Global, text: &[u8], at: usize) -> Result<(Items, usize), Cod
         keep(&mut items, item)?;
         let byte = byte_at(text, after)?;
         if byte == b']' {
-            return Ok((Items::new(items), after + 1));
+            let list = Items::new(alloc, items)?;
+            return Ok((list, after + 1));
         }
         if byte != b',' {
             return Err(Code::Ice);

@@ -18,6 +18,17 @@ struct Try {
     run: usize,
     /// How many spaces and tabs there are from there on; 0 where no run was come to.
     blanks: usize,
+    /// How far the elements matched.
+    reached: usize,
+}
+
+/// A start without a match.
+#[derive(Clone, Copy)]
+pub(crate) struct Miss {
+    /// So many starts beside it have none either.
+    pub(crate) others: usize,
+    /// How many bytes matched there.
+    pub(crate) matched: usize,
 }
 
 /// The beginning of the spaces and tabs before a place.
@@ -51,13 +62,16 @@ fn tried(mode: CaseMode, elements: &[Element], text: &Joined, start: usize) -> T
                 end: None,
                 run: place,
                 blanks: 0,
+                reached: place,
             };
         };
         if element.is_run() {
+            let (matched, reached) = match_end(mode, &elements[i + 1..], text, end);
             return Try {
-                end: match_end(mode, &elements[i + 1..], text, end),
+                end: matched,
                 run: place,
                 blanks: end - place,
+                reached,
             };
         }
         place = end;
@@ -66,6 +80,7 @@ fn tried(mode: CaseMode, elements: &[Element], text: &Joined, start: usize) -> T
         end: Some(place),
         run: place,
         blanks: 0,
+        reached: place,
     }
 }
 
@@ -76,15 +91,18 @@ pub(crate) fn match_from(
     elements: &[Element],
     text: &Joined,
     start: usize,
-) -> Result<usize, usize>
+) -> Result<usize, Miss>
     ensures some { IfOk result (λ end. match_end mode elements.now text.now start ≡ Some end) }
-    ensures none { IfErr result (λ n. (k : ℕ) → start ≤ k → k ≤ start + n
+    ensures none { IfErr result (λ miss. (k : ℕ) → start ≤ k → k ≤ start + miss.others
         → match_end mode elements.now text.now k ≡ None) }
 {
     let tried = tried(mode, elements, text, start);
     match tried.end {
         Some(end) => Ok(end),
-        None => Err(tried.blanks.saturating_sub(1)),
+        None => Err(Miss {
+            others: tried.blanks.saturating_sub(1),
+            matched: tried.reached.saturating_sub(start),
+        }),
     }
 }
 
@@ -96,9 +114,9 @@ pub(crate) fn match_back(
     text: &Joined,
     start: usize,
     to: usize,
-) -> Result<usize, usize>
+) -> Result<usize, Miss>
     ensures some { IfOk result (λ end. (match_end mode elements.now text.now start ≡ Some end) × (end ≤ to)) }
-    ensures none { IfErr result (λ n. (k q : ℕ) → k ≤ start → start ≤ k + n
+    ensures none { IfErr result (λ miss. (k q : ℕ) → k ≤ start → start ≤ k + miss.others
         → match_end mode elements.now text.now k ≡ Some q → to < q) }
 {
     let tried = tried(mode, elements, text, start);
@@ -107,8 +125,12 @@ pub(crate) fn match_back(
             return Ok(end);
         }
     }
+    let matched = tried.reached.saturating_sub(start);
     if tried.blanks == 0 {
-        return Err(0);
+        return Err(Miss { others: 0, matched });
     }
-    Err(tried.run - blanks_start(text, tried.run))
+    Err(Miss {
+        others: tried.run - blanks_start(text, tried.run),
+        matched,
+    })
 }

@@ -1,13 +1,14 @@
 //! The occurrences of a pattern, one after the other.
-ghost use Rattle.std.specs.Prelude.{◌≡◌, ◌+◌, ◌-◌, ◌<◌, ◌≤◌, length, IfErr, IfSome, slice_get};
+ghost use Rattle.std.specs.Prelude.{◌≡◌, ◌+◌, ◌-◌, ◌<◌, ◌≤◌, length, true, IfErr, IfOk, IfSome, IsOk, slice_get};
 ghost use Rattle.std.specs.Result.{result_ok};
 ghost use Rattle.teco_search.specs.Occurrence.{BeginsForward, BeginsBackward, forward, backward_ending_by, backward};
-ghost use Rattle.teco_search.specs.Search.{sought_forward, sought_backward, IsReadyForward, IsReadyBackward};
+ghost use Rattle.teco_search.specs.Search.{sought_forward, sought_backward, IsReadyForward, IsReadyBackward, is_steady};
 
 use crate::anchor::Anchor;
 use crate::element::Element;
 use crate::joined::Joined;
-use crate::{literal, places};
+use crate::patience::{Asker, GivenUp, Patience};
+use crate::{literal, places, plain_bytes};
 use memchr::memmem::{Finder, FinderRev};
 use teco_core::CaseMode;
 
@@ -15,6 +16,8 @@ use teco_core::CaseMode;
 #[derive(Drop)]
 pub(crate) enum Forward<'p> {
     Literal(CaseMode, Finder<'p>),
+    /// Bytes whose letters may stand in both cases.
+    Bytes(CaseMode, &'p [u8], &'p Anchor),
     Elements(CaseMode, &'p [Element], &'p Anchor),
 }
 
@@ -26,123 +29,164 @@ pub(crate) enum Backward<'p> {
 }
 
 /// The occurrence of least start at or after a place.
-fn first_from(search: &Forward, text: &Joined, from: usize) -> Option<(usize, usize)>
+fn first_from<P: Patience>(
+    search: &Forward,
+    text: &Joined,
+    from: usize,
+    asker: &mut Asker<P>,
+) -> Result<Option<(usize, usize)>, GivenUp>
     requires ready { IsReadyForward search.now }
     requires within { from ≤ length text.now }
-    ensures value { BeginsForward (sought_forward search.now) text.now from result }
-    ensures within { IfSome result (λ m. (from ≤ m.0) × (m.0 < m.1) × (m.1 ≤ length text.now)) }
+    ensures value { IfOk result (λ found. BeginsForward (sought_forward search.now) text.now from found) }
+    ensures within { IfOk result (λ found. IfSome found
+        (λ m. (from ≤ m.0) × (m.0 < m.1) × (m.1 ≤ length text.now))) }
+    ensures steady { is_steady search.now ≡ true → IsOk result }
 {
     match search {
         Forward::Literal(_, finder) => {
-            let start = literal::first_from(finder, text, from)?;
-            Some((start, start + finder.needle().len()))
+            let Some(start) = literal::first_from(finder, text, from) else {
+                return Ok(None);
+            };
+            Ok(Some((start, start + finder.needle().len())))
         }
+        Forward::Bytes(mode, bytes, anchor) => plain_bytes::first_from(
+            *mode, bytes, anchor, text, from, asker,
+        ),
         Forward::Elements(mode, elements, anchor) => places::first_from(
-            *mode, elements, anchor, text, from,
+            *mode, elements, anchor, text, from, asker,
         ),
     }
 }
 
 /// The nth occurrence forward; or, where there are fewer, how many of the n are wanted still. The text is passed once.
-pub(crate) fn nth_forward(
+pub(crate) fn nth_forward<P: Patience>(
     search: &Forward,
     text: &Joined,
     from: usize,
     n: u32,
-) -> Result<(usize, usize), u32>
+    asker: &mut Asker<P>,
+) -> Result<Result<(usize, usize), u32>, GivenUp>
     requires ready { IsReadyForward search.now }
     requires within { from ≤ length text.now }
     requires some { 0 < n }
-    ensures found { result_ok result ≡ slice_get (forward (sought_forward search.now) text.now from) (n - 1) }
-    ensures fewer { IfErr result (λ wanted. wanted + length
-        (forward (sought_forward search.now) text.now from) ≡ n) }
+    ensures found { IfOk result (λ told. result_ok told
+        ≡ slice_get (forward (sought_forward search.now) text.now from) (n - 1)) }
+    ensures fewer { IfOk result (λ told. IfErr told (λ wanted. wanted + length
+        (forward (sought_forward search.now) text.now from) ≡ n)) }
+    ensures steady { is_steady search.now ≡ true → IsOk result }
 {
     let mut at = from;
     let mut wanted = n;
-    'wanted: while let Some((start, end)) = first_from(search, text, at) {
+    'wanted: while let Some((start, end)) = first_from(search, text, at, asker)? {
         if wanted == 1 {
-            return Ok((start, end));
+            return Ok(Ok((start, end)));
         }
         wanted -= 1;
         at = end;
     }
-    Err(wanted)
+    Ok(Err(wanted))
 }
 
 /// How many occurrences there are forward.
-pub(crate) fn count_forward(search: &Forward, text: &Joined, from: usize) -> usize
+pub(crate) fn count_forward<P: Patience>(
+    search: &Forward,
+    text: &Joined,
+    from: usize,
+    asker: &mut Asker<P>,
+) -> Result<usize, GivenUp>
     requires { IsReadyForward search.now }
-    ensures value { result ≡ length (forward (sought_forward search.now) text.now from) }
-    ensures past { length text.now ≤ from → result ≡ 0 }
+    ensures value { IfOk result (λ n. n ≡ length (forward (sought_forward search.now) text.now from)) }
+    ensures past { IfOk result (λ n. length text.now ≤ from → n ≡ 0) }
 {
     if from >= text.len() {
-        return 0;
+        return Ok(0);
     }
     let mut at = from;
     let mut count = 0usize;
-    'counted: while let Some((_, end)) = first_from(search, text, at) {
+    'counted: while let Some((_, end)) = first_from(search, text, at, asker)? {
         count += 1;
         at = end;
     }
-    count
+    Ok(count)
 }
 
 /// The occurrence of highest start at or before a place.
-fn last_by_start(search: &Backward, text: &Joined, from: usize) -> Option<(usize, usize)>
+fn last_by_start<P: Patience>(
+    search: &Backward,
+    text: &Joined,
+    from: usize,
+    asker: &mut Asker<P>,
+) -> Result<Option<(usize, usize)>, GivenUp>
     requires ready { IsReadyBackward search.now }
     requires within { from ≤ length text.now }
-    ensures value { let sought = sought_backward search.now in BeginsBackward sought text.now
-        (backward sought text.now from) result }
-    ensures within { IfSome result (λ m. (m.0 < m.1) × (m.1 ≤ length text.now)) }
+    ensures value { let sought = sought_backward search.now in IfOk result (λ found. BeginsBackward sought
+        text.now (backward sought text.now from) found) }
+    ensures within { IfOk result (λ found. IfSome found (λ m. (m.0 < m.1) × (m.1 ≤ length text.now))) }
 {
     match search {
         Backward::Literal(_, finder) => {
             let len = finder.needle().len();
             let rest = text.len() - from;
             let to = from + len.min(rest);
-            let start = literal::last_by(finder, text, to)?;
-            Some((start, start + len))
+            let Some(start) = literal::last_by(finder, text, to) else {
+                return Ok(None);
+            };
+            Ok(Some((start, start + len)))
         }
         Backward::Elements(mode, elements, anchor) => places::last_by_start(
-            *mode, elements, anchor, text, from,
+            *mode, elements, anchor, text, from, asker,
         ),
     }
 }
 
 /// The occurrence of highest start among those that end at or before a place.
-fn last_by_end(search: &Backward, text: &Joined, to: usize) -> Option<(usize, usize)>
+fn last_by_end<P: Patience>(
+    search: &Backward,
+    text: &Joined,
+    to: usize,
+    asker: &mut Asker<P>,
+) -> Result<Option<(usize, usize)>, GivenUp>
     requires ready { IsReadyBackward search.now }
     requires within { to ≤ length text.now }
-    ensures value { let sought = sought_backward search.now in BeginsBackward sought text.now
-        (backward_ending_by sought text.now to) result }
-    ensures within { IfSome result (λ m. (m.0 < m.1) × (m.1 ≤ to)) }
+    ensures value { let sought = sought_backward search.now in IfOk result (λ found. BeginsBackward sought
+        text.now (backward_ending_by sought text.now to) found) }
+    ensures within { IfOk result (λ found. IfSome found (λ m. (m.0 < m.1) × (m.1 ≤ to))) }
 {
     match search {
         Backward::Literal(_, finder) => {
-            let start = literal::last_by(finder, text, to)?;
-            Some((start, start + finder.needle().len()))
+            let Some(start) = literal::last_by(finder, text, to) else {
+                return Ok(None);
+            };
+            Ok(Some((start, start + finder.needle().len())))
         }
         Backward::Elements(mode, elements, anchor) => places::last_by_end(
-            *mode, elements, anchor, text, to,
+            *mode, elements, anchor, text, to, asker,
         ),
     }
 }
 
 /// The nth occurrence backward.
-pub(crate) fn nth_backward(
+pub(crate) fn nth_backward<P: Patience>(
     search: &Backward,
     text: &Joined,
     from: usize,
     n: u32,
-) -> Option<(usize, usize)>
+    asker: &mut Asker<P>,
+) -> Result<Option<(usize, usize)>, GivenUp>
     requires ready { IsReadyBackward search.now }
     requires within { from ≤ length text.now }
     requires some { 0 < n }
-    ensures { result ≡ slice_get (backward (sought_backward search.now) text.now from) (n - 1) }
+    ensures { IfOk result (λ found. found
+        ≡ slice_get (backward (sought_backward search.now) text.now from) (n - 1)) }
 {
-    let mut last = last_by_start(search, text, from)?;
+    let Some(mut last) = last_by_start(search, text, from, asker)? else {
+        return Ok(None);
+    };
     'skipped: for _passed in 1..n {
-        last = last_by_end(search, text, last.0)?;
+        let Some(next) = last_by_end(search, text, last.0, asker)? else {
+            return Ok(None);
+        };
+        last = next;
     }
-    Some(last)
+    Ok(Some(last))
 }

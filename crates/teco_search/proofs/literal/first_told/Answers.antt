@@ -1,4 +1,4 @@
-use Rattle.std.proofs.Common.{ℕ, ◌≤◌, ◌<◌, subst, arith, ⊎_elim}
+use Rattle.std.proofs.Common.{subst, arith, ⊎_elim}
 use Rattle.std.proofs.lemmas.Bool.{both_ways, cases_eq, cases_lt}
 use Rattle.memchr.specs.Find.{OccursAt}
 use Rattle.teco_search.proofs.Windows.{occurs_like}

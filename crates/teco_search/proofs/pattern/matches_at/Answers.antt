@@ -31,5 +31,5 @@ pub returns-in-Elements-clause-within : goal.returns-in-Elements-clause-within
 returns-in-Elements-clause-within c =
     let text = c.args.halves.0.now ++ c.args.halves.1.now in
     let some = kept_some c.pattern.inside.mode c.pattern.inside.form c.args.pattern.now c.pattern.view_is c.pattern.invariant in
-    let value : c.match_end.result ≡ match_end c.args.pattern.now.mode c.args.pattern.now.elements text c.args.at = search rules in
-    match_within c.args.pattern.now text c.args.at c.match_end.result some value
+    let value : c.match_end.result.0 ≡ match_end c.args.pattern.now.mode c.args.pattern.now.elements text c.args.at = search rules in
+    match_within c.args.pattern.now text c.args.at c.match_end.result.0 some value

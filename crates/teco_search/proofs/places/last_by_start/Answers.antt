@@ -1,5 +1,7 @@
 use Rattle.std.proofs.Common.{◌≡◌, ◌+◌, ◌-◌, ◌<◌, ◌≤◌, ◌⊎◌, ℕ, length, inl, inr, subst, arith}
-use Rattle.teco_search.specs.Occurrence.{looked_for}
+use Rattle.std.specs.Prelude.{IfOk, IfSome}
+use Rattle.std.proofs.lemmas.Result.{IfOk-weaker}
+use Rattle.teco_search.specs.Occurrence.{looked_for, BeginsBackward, backward}
 use Rattle.teco_search.specs.Anchor.{FindsLastBelow}
 use Rattle.teco_search.proofs.Anchored.{begins_by_start, within_by}
 use Rattle.teco_search.proofs.places.last_by_start.Goals as goal
@@ -15,16 +17,24 @@ below_of from offset len below (inl here) = let same = here.1 in record { into =
 below_of from offset len below (inr past) = let room = past.0 in let same = past.1 in record { into = λ k low inside. omega arith; out = λ k under. omega arith }
 
 pub returns-clause-value : goal.returns-clause-value
-returns-clause-value c =
+returns-clause-value g c =
     let below : AreBelow c.args.from c.args.anchor.now.offset c.len-len.result c.if-anchor-len.below = below_of c.args.from c.args.anchor.now.offset c.len-len.result c.if-anchor-len.below (elim c.if-anchor-len.branch [
       | then-anchor-len w ↦ inl (w.if-anchor-len.true, w.below-is)
       | else-anchor-len w ↦ inr (w.if-anchor-len.false, w.below-is)
     ]) in
-    begins_by_start c.args.mode c.args.elements.now c.args.anchor.now c.requires.anchored c.args.text.now c.args.from c.if-anchor-len.below c.last_below.result
-    (λ k low inside. below.into k low (omega (arith, c.len-len.ensures.value))) below.out
-    (subst (λ n. FindsLastBelow (looked_for c.args.mode c.args.elements.now) c.args.text.now c.args.anchor.now.offset c.if-anchor-len.below n c.last_below.result) c.len-len.ensures.value c.last_below.ensures)
+    let sought = looked_for c.args.mode c.args.elements.now in
+    let text = c.args.text.now in
+    let Finds = FindsLastBelow sought text c.args.anchor.now.offset c.if-anchor-len.below in
+    IfOk-weaker c.last_below.result (Finds (length text)) (BeginsBackward sought text (backward sought text c.args.from))
+    (λ found last. begins_by_start c.args.mode c.args.elements.now c.args.anchor.now c.requires.anchored text c.args.from c.if-anchor-len.below found
+    (λ k low inside. below.into k low (omega (arith, c.len-len.ensures.value))) below.out last)
+    (subst (λ n. IfOk c.last_below.result (Finds n)) c.len-len.ensures.value c.last_below.ensures)
 
 pub returns-clause-within : goal.returns-clause-within
-returns-clause-within c =
-    within_by c.args.mode c.args.elements.now c.args.anchor.now c.requires.anchored c.args.text.now c.if-anchor-len.below (length c.args.text.now) c.last_below.result
-    (subst (λ n. FindsLastBelow (looked_for c.args.mode c.args.elements.now) c.args.text.now c.args.anchor.now.offset c.if-anchor-len.below n c.last_below.result) c.len-len.ensures.value c.last_below.ensures)
+returns-clause-within g c =
+    let sought = looked_for c.args.mode c.args.elements.now in
+    let text = c.args.text.now in
+    let Finds = FindsLastBelow sought text c.args.anchor.now.offset c.if-anchor-len.below in
+    IfOk-weaker c.last_below.result (Finds (length text)) (λ found. IfSome found (λ m. (m.0 < m.1) × (m.1 ≤ length text)))
+    (λ found last. within_by c.args.mode c.args.elements.now c.args.anchor.now c.requires.anchored text c.if-anchor-len.below (length text) found last)
+    (subst (λ n. IfOk c.last_below.result (Finds n)) c.len-len.ensures.value c.last_below.ensures)

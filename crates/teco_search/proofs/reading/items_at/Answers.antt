@@ -26,7 +26,7 @@ returns-in_err-byte-clause-read c =
 pub returns-then-byte-eq93-clause-read : goal.returns-then-byte-eq93-clause-read
 returns-then-byte-eq93-clause-read c =
     let end : byte_at c.args.text.now c.in_ok-item.after ≡ Ok 93 = cc (c.in_ok-byte.ensures.read, c.if-byte-eq93.true) in
-    let list : c.new.result ≡ c.items.items.items ++ c.in_ok-item.item ∷ [] = c.new.ensures ∙ c.in_ok-keep.ensures.ok in
+    let list : c.in_ok-list.list ≡ c.items.items.items ++ c.in_ok-item.item ∷ [] = c.in_ok-list.ensures.ok ∙ c.in_ok-keep.ensures.ok in
     rw list (items_done c.args.text.now c.args.at c.items.items.items c.items.at c.items.invariant.so_far c.in_ok-item.item c.in_ok-item.after
     (sym c.in_ok-item.ensures.read) c.in_ok-item.ensures.within.0 c.in_ok-item.ensures.within.1 end)
 

@@ -38,7 +38,7 @@ returns-then-is_run c =
     let is = c.is_run.ensures.0 c.if-is_run.true in
     let ends = ends_of c.args.mode c.index-elements-i.result c.args.text.now c.elements.place end is c.in-Some.ensures in
     let along = c.elements.invariant.along in
-    let rest = c.match_end.ensures ∙ ap (λ ds. match_end c.args.mode ds c.args.text.now end) (take_rest es (i + 1)) in
+    let rest = c.match_end-matched.ensures ∙ ap (λ ds. match_end c.args.mode ds c.args.text.now end) (take_rest es (i + 1)) in
     record {
       end =
           rest

@@ -5,7 +5,7 @@ use Rattle.teco_search.specs.Search.{sought_forward}
 use Rattle.teco_search.proofs.search.nth_forward.Given as goal
 
 abbrev pub invariant-wanted : goal.invariant-wanted
-invariant-wanted l = record {
+invariant-wanted g l = record {
   within : l.at ≤ length l.text;
   some : 0 < l.wanted;
   passed : l.wanted + length (forward (sought_forward l.search) l.text l.from) ≡ l.n + length (forward (sought_forward l.search) l.text l.at);
@@ -13,4 +13,4 @@ invariant-wanted l = record {
 }
 
 abbrev pub decreases-wanted : goal.decreases-wanted
-decreases-wanted l = l.wanted
+decreases-wanted g l = l.wanted

@@ -1,4 +1,4 @@
-use Rattle.std.proofs.Common.{◌+◌, ◌*◌, ◌%◌, ap, ap₂, ◌∙◌}
+use Rattle.std.proofs.Common.{◌+◌, ◌*◌, ◌%◌, ap₂, ◌∙◌}
 use Rattle.teco_search.specs.declared.window.TheConstants.{BASE, MODULUS}
 use Rattle.teco_search.proofs.Windows.{window_number-rolled}
 use Rattle.teco_search.proofs.window.Needle.rolled.Goals as goal
