@@ -1,8 +1,8 @@
 -- A turn changes only what its kind names, and leaves a change of the kind that goes back.
-use Rattle.std.proofs.Common.{◌≡◌, length, drop, refl, sym, ◌∙◌, ap, subst, arith, length-drop}
+use Rattle.std.proofs.Common.{◌≡◌, [], length, drop, refl, sym, ◌∙◌, ap, subst, arith, length-drop}
 use Rattle.std.proofs.lemmas.List.{length-take-le}
 use Rattle.teco_store.specs.State.{Body}
-use Rattle.teco_store.specs.Turn.{Turn, Splice, Lend, Point, Number, Text, Push, TakeOff, PopInto, PutBack, Pages, Search, Found, Done, Mode, lent, top_of, body_after, turn_after, Stands}
+use Rattle.teco_store.specs.Turn.{Turn, Splice, Lend, PutIn, TakeOut, Point, Number, Text, Push, TakeOff, PopInto, PutBack, Pages, Search, Found, Done, Mode, lent, top_of, body_after, turn_after, Stands}
 use Rattle.teco_store.proofs.Loans.{length-lent}
 use Rattle.teco_store.specs.Kinds.{kind_of, way_back, ChangesOnly, TellsItsTurn}
 use Rattle.teco_store.specs.declared.change_kind.ChangeKind.{ChangeKind}
@@ -11,6 +11,8 @@ use Rattle.teco_store.specs.declared.change_kind.ChangeKind.TheVariants as kind
 changes_only : (t : Turn) (b : Body) → ChangesOnly (kind_of t) b (body_after t b)
 changes_only (Splice at there pointer held) b = (held, refl, refl)
 changes_only (Lend from count there_from there pointer) b = (lent b.input from count, length-lent b.input from count, refl)
+changes_only (PutIn held pointer) b = (held, refl, refl)
+changes_only (TakeOut held pointer) b = ([], refl, refl)
 changes_only (Point pointer) b = refl
 changes_only (Number q number) b = (number, refl)
 changes_only (Text q held) b = (held, refl)
@@ -28,6 +30,8 @@ kind_back : (t : Turn) (b : Body) → Stands t b → kind_of (turn_after t b) �
 kind_back (Splice at there pointer held) b within =
     ap (λ n. kind.Splice at (length held) n) (length-take-le there (drop at b.text) (omega (arith, length-drop at b.text, within)))
 kind_back (Lend from count there_from there pointer) b s = refl
+kind_back (PutIn held pointer) b s = refl
+kind_back (TakeOut held pointer) b s = refl
 kind_back (Point pointer) b s = refl
 kind_back (Number q number) b s = refl
 kind_back (Text q held) b s = refl

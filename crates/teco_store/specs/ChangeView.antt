@@ -1,11 +1,12 @@
 -- What contracts see of a change.
 use Rattle.std.specs.Prelude.{◌+◌, ◌≤◌, [], ◌∷◌, length, option_map}
+use Rattle.std.specs.Arc.{arc_value}
 use Rattle.std.specs.Vec.{vec_capacity}
 use Rattle.teco_core.specs.Contents.{content_of}
 use Rattle.teco_store.specs.Turn as turn
 use Rattle.teco_store.specs.Turn.{Turn}
 use Rattle.teco_store.specs.declared.change.PartValue.{PartValue}
-use Rattle.teco_store.specs.declared.change.PartValue.TheVariants.{Small, Splice, Short, Lend, Text, Push, TakeOff, PopInto, PutBack, Search}
+use Rattle.teco_store.specs.declared.change.PartValue.TheVariants.{Small, Splice, Short, Lend, PutIn, TakeOut, Text, Push, TakeOff, PopInto, PutBack, Search}
 use Rattle.teco_store.specs.declared.change.SmallChange.{SmallChange}
 use Rattle.teco_store.specs.declared.change.SmallChange.TheVariants.{InsertByte, RemoveByte, Point, Number, Pages, Found, Done, Mode, HeldApart}
 use Rattle.teco_store.specs.declared.short_text.TheConstants.{SHORT_LIMIT}
@@ -32,6 +33,8 @@ turn_of (Small small) = small_turn small
 turn_of (Splice p held) = turn.Splice p.at p.len p.pointer held.items
 turn_of (Short p held) = turn.Splice p.at p.len p.pointer held
 turn_of (Lend l) = turn.Lend l.from l.len l.old_from l.old_len l.pointer
+turn_of (PutIn text pointer) = turn.PutIn (arc_value text).items pointer
+turn_of (TakeOut text pointer) = turn.TakeOut (arc_value text).items pointer
 turn_of (Text q held) = turn.Text q held.items
 turn_of (Push value) = turn.Push (content_of value)
 turn_of TakeOff = turn.TakeOff

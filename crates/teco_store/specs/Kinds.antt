@@ -11,6 +11,8 @@ use Rattle.teco_store.specs.declared.change_kind.ChangeKind.TheVariants.{Splice,
 abbrev pub kind_of : Turn → ChangeKind
 kind_of (turn.Splice at there pointer held) = Splice at there (length held)
 kind_of (turn.Lend from count there_from there pointer) = Splice 0 there count
+kind_of (turn.PutIn held pointer) = Splice 0 0 (length held)
+kind_of (turn.TakeOut held pointer) = Splice 0 (length held) 0
 kind_of (turn.Point pointer) = Point
 kind_of (turn.Number q number) = Number q
 kind_of (turn.Text q held) = Text q

@@ -1,13 +1,26 @@
--- What is stored of an output: its own bytes, and parts in order, which take those in turn.
-use Rattle.std.specs.Prelude.{◌≡◌, ◌+◌, ◌≤◌, ℕ, List, ◌∷◌, [], ◌++◌, length, take, Option, option_to_list}
+-- What is stored of an output: its own bytes, and parts in order, which take those in turn or are parts of its source.
+use Rattle.std.specs.Prelude.{◌≡◌, ◌+◌, ◌≤◌, ℕ, List, ◌∷◌, [], ◌++◌, length, take, Option, Some, None, option_to_list}
+use Rattle.std.specs.Arc.{arc_value}
 use Rattle.std.specs.List.{All, sum_by}
+use Rattle.std.specs.declared.alloc.Global.{Global}
+use Rattle.std.specs.declared.sync.Arc.{Arc}
+use Rattle.std.specs.declared.vec.Vec.{Vec}
 use Rattle.teco_store.specs.Parts.{joined, own_size, size, EndsWithin, IsOrdered}
 use Rattle.teco_store.specs.declared.output.Cut.{Cut}
 use Rattle.teco_store.specs.declared.output.Output.{Output}
 use Rattle.teco_store.specs.declared.parts.Part.{Part}
 
+-- the text that is shared, if there is one
+abbrev pub text_in : Option (Arc (Vec ℕ Global) Global) → List ℕ
+text_in None = []
+text_in (Some text) = (arc_value text).items
+
+-- what the parts that are not copied are parts of: the input, and after it the text that is shared
+abbrev pub source_of : Output → List ℕ → List ℕ
+source_of o input = input ++ text_in o.shared
+
 abbrev pub bytes_of : Output → List ℕ → List ℕ
-bytes_of o input = joined o.own.items input o.parts.items
+bytes_of o input = joined o.own.items (source_of o input) o.parts.items
 
 -- The parts have the bytes that are counted, and just its own ones among them.
 pub record IsCounted (o : Output) : Type 0 where
@@ -15,15 +28,16 @@ pub record IsCounted (o : Output) : Type 0 where
   pub own : sum_by own_size o.parts.items ≡ length o.own.items
   pub len : sum_by size o.parts.items ≡ o.len
 
--- The parts of the input lie in it.
+-- The parts of the source lie in it.
 abbrev pub IsIn : Output → List ℕ → Type 0
-IsIn o input = IsCounted o × All (EndsWithin (length input)) o.parts.items
+IsIn o input = IsCounted o × All (EndsWithin (length (source_of o input))) o.parts.items
 
 -- Two outputs that differ in their memory alone.
 pub record IsSame (o new : Output) : Type 0 where
   pub own : new.own.items ≡ o.own.items
   pub parts : new.parts.items ≡ o.parts.items
   pub len : new.len ≡ o.len
+  pub shared : new.shared ≡ o.shared
 
 -- Some parts are others up to so many bytes.
 pub record IsFront (shown : ℕ) (ps qs : List Part) : Type 0 where

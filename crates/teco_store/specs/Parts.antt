@@ -1,4 +1,4 @@
--- Parts of an output: some of its own bytes, or a part of the input, which is not copied.
+-- Parts of an output: some of its own bytes, or a part of its source, which is not copied.
 use Rattle.std.specs.Prelude.{◌-◌, ◌≤◌, ℕ, List, [], ◌∷◌, ◌++◌, take, drop, slice_range}
 use Rattle.teco_store.specs.declared.parts.Part.{Part}
 use Rattle.teco_store.specs.declared.parts.Part.TheVariants.{Own, Lent}
@@ -19,15 +19,15 @@ without (Lent from upto) over = Lent from (upto - over)
 
 -- its bytes, where these own ones are left
 abbrev pub piece : List ℕ → List ℕ → Part → List ℕ
-piece own input (Own count) = take count own
-piece own input (Lent from upto) = slice_range input from upto
+piece own source (Own count) = take count own
+piece own source (Lent from upto) = slice_range source from upto
 
 -- the bytes of parts, one after another, which take the own ones in turn
 abbrev pub joined : List ℕ → List ℕ → List Part → List ℕ
-joined own input [] = []
-joined own input (p ∷ ps) = piece own input p ++ joined (drop (own_size p) own) input ps
+joined own source [] = []
+joined own source (p ∷ ps) = piece own source p ++ joined (drop (own_size p) own) source ps
 
--- A part of the input doesn't end before it begins, and it ends within the input.
+-- A part of the source doesn't end before it begins, and it ends within so many bytes.
 abbrev pub IsOrdered : Part → Type 0
 IsOrdered (Own count) = Unit {0}
 IsOrdered (Lent from upto) = from ≤ upto

@@ -1,5 +1,5 @@
 -- Changes: a part of the state and the value that is to be put there. Turned, a change holds what stood there.
-use Rattle.std.specs.Prelude.{◌≡◌, ℕ, ◌+◌, ◌<◌, ◌≤◌, Bool, List, ◌∷◌, ◌++◌, length, take, drop, replicate, Option, Some, ℤ, slice_index_or}
+use Rattle.std.specs.Prelude.{◌≡◌, ℕ, ◌+◌, ◌<◌, ◌≤◌, Bool, List, [], ◌∷◌, ◌++◌, length, take, drop, replicate, Option, Some, ℤ, slice_index_or}
 use Rattle.teco_core.specs.declared.case_mode.CaseMode.{CaseMode}
 use Rattle.teco_core.specs.Register.{Content, blank, content, with_content}
 use Rattle.teco_store.specs.Search.{length_of}
@@ -10,6 +10,9 @@ pub data Turn : Type 0 where
   Splice : (at there pointer : ℕ) (held : List ℕ) → Turn
   -- for the whole text, which is `there` bytes of the input, and for the pointer: other bytes of the input
   Lend : (from count there_from there pointer : ℕ) → Turn
+  -- for a text of no bytes, and for the whole text, which is held; and for the pointer
+  PutIn : (held : List ℕ) (pointer : ℕ) → Turn
+  TakeOut : (held : List ℕ) (pointer : ℕ) → Turn
   Point : (pointer : ℕ) → Turn
   -- for the number, or the text, of the register q
   Number : (q : ℕ) (number : ℤ) → Turn
@@ -43,6 +46,8 @@ top_of contents = slice_index_or contents 0 blank
 abbrev pub body_after : Turn → Body → Body
 body_after (Splice at there pointer held) b = spliced b at there held (Some pointer)
 body_after (Lend from count there_from there pointer) b = spliced b 0 there (lent b.input from count) (Some pointer)
+body_after (PutIn held pointer) b = spliced b 0 0 held (Some pointer)
+body_after (TakeOut held pointer) b = spliced b 0 (length held) [] (Some pointer)
 body_after (Point pointer) b = pointed b pointer
 body_after (Number q number) b = with_register_number b q number
 body_after (Text q held) b = with_register_text b q held
@@ -71,6 +76,8 @@ body_after (Mode mode) b = with_case b mode
 abbrev pub turn_after : Turn → Body → Turn
 turn_after (Splice at there pointer held) b = Splice at (length held) b.pointer (take there (drop at b.text))
 turn_after (Lend from count there_from there pointer) b = Lend there_from there from count b.pointer
+turn_after (PutIn held pointer) b = TakeOut held b.pointer
+turn_after (TakeOut held pointer) b = PutIn held b.pointer
 turn_after (Point pointer) b = Point b.pointer
 turn_after (Number q number) b = Number q (content b.registers q).number
 turn_after (Text q held) b = Text q (content b.registers q).text
@@ -89,6 +96,8 @@ abbrev pub Stands : Turn → Body → Type 0
 Stands (Splice at there pointer held) b = at + there ≤ length b.text
 Stands (Lend from count there_from there pointer) b = IsLent b.text b.input there_from there
     × (from + count ≤ length b.input)
+Stands (PutIn held pointer) b = b.text ≡ []
+Stands (TakeOut held pointer) b = b.text ≡ held
 Stands (Point pointer) b = Unit {0}
 Stands (Number q number) b = q < length b.registers
 Stands (Text q held) b = q < length b.registers
@@ -132,6 +141,8 @@ IsApplicable t f = Fits f.room (length f.stored) t f.body × (f.body.output ≤ 
 abbrev pub held_by : Turn → ℕ
 held_by (Splice at there pointer held) = length held
 held_by (Lend from count there_from there pointer) = 0
+held_by (PutIn held pointer) = length held
+held_by (TakeOut held pointer) = length held
 held_by (Point pointer) = 0
 held_by (Number q number) = 0
 held_by (Text q held) = length held

@@ -8,8 +8,10 @@ ghost use Rattle.teco_store.specs.Turn.{body_after, turn_after, note_after, full
 use crate::change_kind::ChangeKind;
 use crate::editor::Editor;
 use crate::short_text::ShortText;
+use std::alloc::Global;
 use std::marker::Model;
 use std::mem;
+use std::sync::Arc;
 use teco_core::{CaseMode, Reg, Value};
 
 /// So many bytes of the text from a place on, and a place for the pointer.
@@ -114,6 +116,10 @@ pub enum PartValue {
     Splice(TextSpan, Vec<u8>),
     Short(TextSpan, ShortText),
     Lend(Loan),
+    /// A text with other owners too, for a text of no bytes, and a place for the pointer.
+    PutIn(Arc<Vec<u8>, Global>, u32),
+    /// The whole text, which has other owners too, and a place for the pointer.
+    TakeOut(Arc<Vec<u8>, Global>, u32),
     Text(Reg, Vec<u8>),
     Push(Value),
     TakeOff,
@@ -125,7 +131,7 @@ pub enum PartValue {
 /// A part of the state and the value that is to be put there.
 ///
 /// It holds the text that it takes the place of, and no other. Turned, it holds what stood there. A page that stands in the input as it
-/// was read is not held: the change names its place.
+/// was read is not held: the change names its place. A text that an exit wrote is held once, by the change and by the output together.
 #[derive(Drop)]
 pub struct PartChange {
     kind: PartValue,
@@ -159,6 +165,7 @@ impl PartChange {
             PartValue::Splice(_, held) | PartValue::Text(_, held) => held.len(),
             PartValue::Search(Some(held)) => held.len(),
             PartValue::Short(_, held) => held.len(),
+            PartValue::PutIn(text, _) | PartValue::TakeOut(text, _) => text.len(),
             PartValue::Push(value) | PartValue::PutBack(_, value) => value.text.len(),
             PartValue::Small(SmallChange::InsertByte { .. }) => 1,
             PartValue::Small(_)
@@ -178,6 +185,16 @@ impl PartChange {
             PartValue::Splice(place, held) => place.kind(held.len()),
             PartValue::Short(place, held) => place.kind(held.len()),
             PartValue::Lend(loan) => loan.kind(),
+            PartValue::PutIn(text, _) => ChangeKind::Splice {
+                at: 0,
+                gone: 0,
+                came: text.len(),
+            },
+            PartValue::TakeOut(text, _) => ChangeKind::Splice {
+                at: 0,
+                gone: text.len(),
+                came: 0,
+            },
             PartValue::Text(q, _) => ChangeKind::Text(*q),
             PartValue::Push(_) | PartValue::TakeOff => ChangeKind::Push,
             PartValue::PopInto(q) => ChangeKind::Pop(*q),

@@ -1,26 +1,31 @@
-//! The output of an editor. What is written as it stands in the input is not copied.
-ghost use Rattle.std.specs.Prelude.{◌≡◌, ℕ, List, ◌+◌, ◌-◌, ◌<◌, ◌≤◌, ◌^◌, ◌++◌, [], ◌∷◌, length, take, drop, slice_range, option_to_list, IfSome, OnOk, OnErr};
+//! The output of an editor. What is written as it stands in the input is not copied, nor is a text that is shared.
+ghost use Rattle.std.specs.Prelude.{◌≡◌, ℕ, List, None, ◌+◌, ◌-◌, ◌<◌, ◌≤◌, ◌^◌, ◌++◌, [], ◌∷◌, length, take, drop, slice_range, option_to_list, IfSome, OnOk, OnErr};
 ghost use Rattle.std.specs.List.{All, sum_by};
 ghost use Rattle.std.specs.Vec.{vec_capacity};
-ghost use Rattle.teco_store.specs.Output.{bytes_of, kept, IsCounted, IsCut, IsIn, IsMore, IsSame};
+ghost use Rattle.teco_store.specs.Output.{bytes_of, kept, source_of, text_in, IsCounted, IsCut, IsIn, IsMore, IsSame};
 ghost use Rattle.teco_store.specs.Page.{form_feed_if};
 ghost use Rattle.teco_store.specs.Parts.{own_size, IsOrdered};
 ghost use Rattle.teco_store.specs.Slices.{bytes_in};
+
+mod sharing;
 
 use crate::pages::{append_within, form_feed_bytes};
 use crate::parts::Part;
 use crate::slices::Slices;
 use std::alloc::Global;
+use std::sync::Arc;
 use teco_core::NoMemory;
 
-/// What is stored of an output: bytes of its own, and parts in order, which take those in turn or are parts of the input.
+/// What is stored of an output: bytes of its own, and parts in order, which take those in turn or are parts of its source.
 ///
-/// Pages that are written as they were read lengthen the last part. Other bytes are copied, and nothing else is for them.
+/// The source is the input, and after it a text that has other owners too, which an exit wrote. Pages that are written as they were read
+/// lengthen the last part. Other bytes are copied, and nothing else is for them.
 #[derive(Drop)]
 pub(crate) struct Output {
     own: Vec<u8>,
     parts: Vec<Part>,
     len: usize,
+    shared: Option<Arc<Vec<u8>, Global>>,
 }
 
 /// Where an output is cut: so many parts stay, and a front of the next one. These have so many own bytes.
@@ -102,11 +107,13 @@ impl Output {
         ensures own { result.own.items ≡ [] }
         ensures parts { result.parts.items ≡ [] }
         ensures len { result.len ≡ 0 }
+        ensures shared { result.shared ≡ None }
     {
         Output {
             own: Vec::new(alloc),
             parts: Vec::new(alloc),
             len: 0,
+            shared: None,
         }
     }
 
@@ -115,7 +122,7 @@ impl Output {
         requires there { shown ≤ length (bytes_of self.now input.now) }
         ensures { bytes_in result ≡ take shown (bytes_of self.now input.now) }
     {
-        Slices::new(&self.own, input, &self.parts, shown)
+        Slices::new(&self.own, input, self.shared(), &self.parts, shown)
     }
 
     // Where it is cut after the first `shown` bytes. Takes the time of the parts beyond.
@@ -156,6 +163,7 @@ impl Output {
         ensures bytes { (input : List ℕ) → IsIn self.old input → IsIn self.new input
             × (bytes_of self.new input ≡ take shown (bytes_of self.old input)) }
         ensures len { self.new.len ≡ shown }
+        ensures shared { self.new.shared ≡ self.old.shared }
         ensures own { (length self.new.own.items ≡ cut.own)
             × (vec_capacity self.old.own ≤ vec_capacity self.new.own) }
         ensures parts { (length self.new.parts.items ≤ cut.parts + 1)
@@ -166,33 +174,34 @@ impl Output {
         self.len = shown;
     }
 
-    // Drops all but the first `shown` bytes.
-    pub(crate) fn cut(&mut self, shown: usize)
-        requires counted { IsCounted self.old }
+    // Drops all but the first `shown` bytes, and the shared text where none of these are its.
+    pub(crate) fn cut(&mut self, input: &[u8], shown: usize)
+        requires part { IsIn self.old input.now }
         requires there { shown ≤ self.old.len }
-        ensures bytes { (input : List ℕ) → IsIn self.old input → IsIn self.new input
-            × (bytes_of self.new input ≡ take shown (bytes_of self.old input)) }
+        ensures bytes { bytes_of self.new input.now ≡ take shown (bytes_of self.old input.now) }
+        ensures part { IsIn self.new input.now }
     {
         let cut = self.cut_at(shown);
         self.keep(shown, cut);
+        self.forget_shared(input);
     }
 
-    // Finds room for so many own bytes and for two parts after a cut.
+    // Finds room for so many own bytes and for three parts after a cut.
     fn reserve(&mut self, cut: Cut, more: usize) -> Result<(), NoMemory>
         requires cut { cut.parts ≤ length self.old.parts.items }
         requires few { cut.own + more < 2 ^ 64 }
         ensures same { IsSame self.old self.new }
         ensures own { OnOk result (cut.own + more ≤ vec_capacity self.new.own) }
-        ensures parts { OnOk result (cut.parts + 3 ≤ vec_capacity self.new.parts) }
+        ensures parts { OnOk result (cut.parts + 4 ≤ vec_capacity self.new.parts) }
     {
         let own = (cut.own + more).saturating_sub(self.own.len());
         self.own.reserve(own)?;
-        let parts = (cut.parts + 3).saturating_sub(self.parts.len());
+        let parts = (cut.parts + 4).saturating_sub(self.parts.len());
         self.parts.reserve(parts)?;
         Ok(())
     }
 
-    // Drops all but the first `shown` bytes, where there is room for so many own bytes and for two parts after them.
+    // Drops all but the first `shown` bytes, where there is room for so many own bytes and for three parts after them.
     fn make_room(&mut self, input: &[u8], shown: usize, more: usize) -> Result<(), NoMemory>
         requires part { IsIn self.old input.now }
         requires there { shown ≤ length (bytes_of self.old input.now) }
@@ -200,9 +209,10 @@ impl Output {
         ensures ok { OnOk result (bytes_of self.new input.now ≡ take shown (bytes_of self.old input.now)) }
         ensures err { OnErr result (bytes_of self.new input.now ≡ bytes_of self.old input.now) }
         ensures part { IsIn self.new input.now }
+        ensures shared { self.new.shared ≡ self.old.shared }
         ensures len { OnOk result ((self.new.len ≡ shown) × (length self.new.own.items ≤ shown)) }
         ensures own { OnOk result (length self.new.own.items + more ≤ vec_capacity self.new.own) }
-        ensures parts { OnOk result (length self.new.parts.items + 2 ≤ vec_capacity self.new.parts) }
+        ensures parts { OnOk result (length self.new.parts.items + 3 ≤ vec_capacity self.new.parts) }
     {
         let cut = self.cut_at(shown);
         self.reserve(cut, more)?;
@@ -232,14 +242,21 @@ impl Output {
         self.len += count;
     }
 
-    // Puts the input from one place up to another at the end. There is room for the part.
+    // Puts the source from one place up to another at the end. There is room for the part.
     fn lend(&mut self, from: usize, upto: usize)
         requires counted { IsCounted self.old }
         requires order { (from ≤ upto) × (upto < 2 ^ 32) }
         requires few { (length self.old.own.items < 2 ^ 32) × (self.old.len < 2 ^ 32) }
         requires parts { length self.old.parts.items < vec_capacity self.old.parts }
-        ensures bytes { (input : List ℕ) → IsIn self.old input → upto ≤ length input → IsIn self.new input
-            × (bytes_of self.new input ≡ bytes_of self.old input ++ slice_range input from upto) }
+        ensures bytes { (input : List ℕ) → IsIn self.old input → upto ≤ length (source_of self.old input)
+            → IsIn self.new input × (bytes_of self.new input
+            ≡ bytes_of self.old input ++ slice_range (source_of self.old input) from upto) }
+        ensures within { (input : List ℕ) → upto ≤ length input
+            → slice_range (source_of self.old input) from upto ≡ slice_range input from upto }
+        ensures own { self.new.own ≡ self.old.own }
+        ensures len { self.new.len ≡ self.old.len + (upto - from) }
+        ensures count { (length self.new.parts.items ≤ length self.old.parts.items + 1)
+            × (vec_capacity self.old.parts ≤ vec_capacity self.new.parts) }
     {
         if from < upto {
             let part = Part::Lent {

@@ -1,9 +1,11 @@
 //! The parts of an output.
-ghost use Rattle.std.specs.Prelude.{◌≡◌, ◌+◌, ◌-◌, ◌<◌, ◌≤◌, ◌^◌, drop, IfSome};
+ghost use Rattle.std.specs.Prelude.{◌≡◌, ◌↔◌, ◌+◌, ◌-◌, ◌<◌, ◌≤◌, ◌^◌, ◌++◌, drop, IfSome, IsTrue};
 ghost use Rattle.teco_store.specs.Output.{IsBoth};
-ghost use Rattle.teco_store.specs.Parts.{own_size, piece, size, without, IsOrdered};
+ghost use Rattle.teco_store.specs.Parts.{own_size, piece, size, without, EndsWithin, IsOrdered};
 
-/// A part of an output: so many of its own bytes, or what the input has from one place up to another.
+use crate::pages::part;
+
+/// A part of an output: so many of its own bytes, or what its source has from one place up to another.
 #[derive(Clone, Copy)]
 pub(crate) enum Part {
     Own(u32),
@@ -47,16 +49,37 @@ impl Part {
         }
     }
 
-    // The part's bytes, where these own ones are left, and the own ones that are left after it.
-    pub(crate) fn split<'a>(self, own: &'a [u8], input: &'a [u8]) -> (&'a [u8], &'a [u8])
-        ensures piece { result.0.now ≡ piece own.entry.now input.entry.now self }
-        ensures own { result.1.now ≡ drop (own_size self) own.entry.now }
+    // Whether it ends within so many bytes of the source.
+    pub(crate) fn ends_within(self, end: usize) -> bool
+        ensures { IsTrue result ↔ EndsWithin end self }
     {
         match self {
-            Part::Own(count) => own.split_at(own.len().min(count as usize)),
+            Part::Own(_) => true,
+            Part::Lent { upto, .. } => upto as usize <= end,
+        }
+    }
+
+    // The part's bytes in two slices, where these own ones are left and the source is these two texts; and the own ones that are left
+    // after it.
+    pub(crate) fn split<'a>(
+        self,
+        own: &'a [u8],
+        input: &'a [u8],
+        shared: &'a [u8],
+    ) -> (&'a [u8], &'a [u8], &'a [u8])
+        ensures piece { result.0.now ++ result.1.now
+            ≡ piece own.entry.now (input.entry.now ++ shared.entry.now) self }
+        ensures own { result.2.now ≡ drop (own_size self) own.entry.now }
+    {
+        match self {
+            Part::Own(count) => {
+                let (slice, rest) = own.split_at(own.len().min(count as usize));
+                (slice, &[], rest)
+            }
             Part::Lent { from, upto } => {
-                let end = input.len().min(upto as usize);
-                (&input[end.min(from as usize)..end], own)
+                let end = input.len().saturating_add(shared.len()).min(upto as usize);
+                let (slice, next) = part(input, shared, end.min(from as usize), end);
+                (slice, next, own)
             }
         }
     }

@@ -10,9 +10,10 @@ pub struct Slices<'a> {
     first: &'a [u8],
     own: &'a [u8],
     input: &'a [u8],
+    shared: &'a [u8],
     parts: &'a [Part],
     len: usize,
-    ghost within: { len ≤ length (first.now ++ joined own.now input.now parts.now) },
+    ghost within: { len ≤ length (first.now ++ joined own.now (input.now ++ shared.now) parts.now) },
 }
 
 impl<'a> Slices<'a> {
@@ -27,20 +28,30 @@ impl<'a> Slices<'a> {
             first: bytes,
             own: &[],
             input: &[],
+            shared: &[],
             parts: &[],
             len: bytes.len(),
         }
     }
 
-    // The first `len` bytes of some parts, which take these own bytes in turn or are parts of this input.
-    pub(crate) fn new(own: &'a [u8], input: &'a [u8], parts: &'a [Part], len: usize) -> Slices<'a>
-        requires { len ≤ length (joined own.now input.now parts.now) }
-        ensures { bytes_in result ≡ take len (joined own.entry.now input.entry.now parts.entry.now) }
+    // The first `len` bytes of some parts, which take these own bytes in turn or are parts of the source: of this input, and after it of
+    // this shared text.
+    pub(crate) fn new(
+        own: &'a [u8],
+        input: &'a [u8],
+        shared: &'a [u8],
+        parts: &'a [Part],
+        len: usize,
+    ) -> Slices<'a>
+        requires { len ≤ length (joined own.now (input.now ++ shared.now) parts.now) }
+        ensures { bytes_in result
+            ≡ take len (joined own.entry.now (input.entry.now ++ shared.entry.now) parts.entry.now) }
     {
         Slices {
             first: &[],
             own,
             input,
+            shared,
             parts,
             len,
         }
@@ -70,6 +81,7 @@ impl<'a> Slices<'a> {
             first: &[],
             own: self.own,
             input: self.input,
+            shared: self.shared,
             parts: self.parts,
             len: self.len - slice.len(),
         };
@@ -85,12 +97,13 @@ impl<'a> Slices<'a> {
         ensures fewer { IfSome result (λ split. most_slices split.1 < most_slices self.entry) }
     {
         let (first, parts) = self.parts.split_first()?;
-        let (slice, own) = first.split(self.own, self.input);
+        let (slice, next, own) = first.split(self.own, self.input, self.shared);
         let slice = &slice[..slice.len().min(self.len)];
         let others = Slices {
-            first: &[],
+            first: next,
             own,
             input: self.input,
+            shared: self.shared,
             parts,
             len: self.len - slice.len(),
         };

@@ -4,12 +4,14 @@ use Rattle.std.proofs.Math.Nat.{le_refl, le-add_left, le-add_right}
 use Rattle.teco_core.specs.Register.{content}
 use Rattle.teco_store.specs.Search.{length_of}
 use Rattle.teco_store.specs.State.{Body}
-use Rattle.teco_store.specs.Turn.{Turn, Note, Splice, Lend, Point, Number, Text, Push, TakeOff, PopInto, PutBack, Pages, Search, Found, Done, Mode, top_of, turn_after, held_by}
+use Rattle.teco_store.specs.Turn.{Turn, Note, Splice, Lend, PutIn, TakeOut, Point, Number, Text, Push, TakeOff, PopInto, PutBack, Pages, Search, Found, Done, Mode, top_of, turn_after, held_by}
 use Rattle.teco_undo.specs.Entry.{body_back, notes_back, weight, held_in, load_back}
 
 held_weight : (t : Turn) (b : Body) → held_by t ≤ weight t b
 held_weight (Splice at there pointer held) b = le-add_left (length held) there
 held_weight (Lend from count there_from there pointer) b = omega arith
+held_weight (PutIn held pointer) b = le_refl (length held)
+held_weight (TakeOut held pointer) b = le_refl (length held)
 held_weight (Point pointer) b = le_refl 0
 held_weight (Number q n) b = le_refl 0
 held_weight (Text q held) b = le-add_left (length held) (length (content b.registers q).text)
@@ -26,6 +28,8 @@ held_weight (Mode mode) b = le_refl 0
 held_after : (t : Turn) (b : Body) → held_by (turn_after t b) ≤ weight t b
 held_after (Splice at there pointer held) b = let n = length-take there (drop at b.text) in omega arith
 held_after (Lend from count there_from there pointer) b = omega arith
+held_after (PutIn held pointer) b = le_refl (length held)
+held_after (TakeOut held pointer) b = le_refl (length held)
 held_after (Point pointer) b = le_refl 0
 held_after (Number q n) b = le_refl 0
 held_after (Text q held) b = le-add_right (length (content b.registers q).text) (length held)

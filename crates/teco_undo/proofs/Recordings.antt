@@ -5,7 +5,7 @@ use Rattle.std.proofs.lemmas.List.{length-take-le, take-take}
 use Rattle.teco_core.specs.Register.{Content, texted, content}
 use Rattle.teco_store.specs.State.{State, Body, Full, Extends, state_at, state_of}
 use Rattle.teco_store.specs.Trail.{Trail, most_changes, moved, stepped}
-use Rattle.teco_store.specs.Turn.{Turn, Note, Splice, Lend, Point, Number, Text, Push, TakeOff, PopInto, PutBack, Pages, Search, Found, Done, Mode, top_of, Stands, body_after, turn_after, Fits, full_after, FitsFull}
+use Rattle.teco_store.specs.Turn.{Turn, Note, Splice, Lend, PutIn, TakeOut, Point, Number, Text, Push, TakeOff, PopInto, PutBack, Pages, Search, Found, Done, Mode, top_of, Stands, body_after, turn_after, Fits, full_after, FitsFull}
 use Rattle.teco_undo.specs.Entry.{body_back, FitsBack, since, before, of_step, weight, load_back}
 use Rattle.teco_undo.specs.Follows.{Recording, AreMarked, HasCome, Follows, FollowsAfterChanges, StillFollows, noting, with_note}
 use Rattle.teco_undo.proofs.Turns.{fits_after, body_again, content_put}
@@ -99,6 +99,8 @@ weight_after (Splice at there pointer held) b f =
     let taken : length (take there (drop at b.text)) ≡ there = length-take-le there (drop at b.text) (omega (arith, length-drop at b.text, f)) in
     omega arith
 weight_after (Lend from count there_from there pointer) b f = omega arith
+weight_after (PutIn held pointer) b f = refl
+weight_after (TakeOut held pointer) b f = refl
 weight_after (Point pointer) b f = refl
 weight_after (Number q n) b f = refl
 weight_after (Text q held) b f =

@@ -55,12 +55,6 @@ first_apart n r l is some le = let p = (has_places n 1 l (omega arith)).1 le in 
 pub one_less_seen : (n r : ℕ) (l m : ChangeListing) → spare_after n l ≡ r → m.spare + 1 ≡ l.spare → (2 ^ 32 ≤ n → m.apart + 1 ≡ l.apart) → spare_after n m + 1 ≡ r
 one_less_seen n r l m is one apart = one_less n l m one apart ∙ is
 
-pub places_left : (n a : ℕ) (l m : ChangeListing) → l.apart ≡ a → (n < 2 ^ 32 → m.apart ≡ l.apart) → (k : ℕ) → k ≤ spare_after n m → k ≤ a → k ≤ m.apart
-places_left n a l m is early k h le = elim (cases_lt n (2 ^ 32)) [
-  | inl lt ↦ let e = early lt in omega arith
-  | inr ge ↦ (has_places n k m h).1 ge
-]
-
 on_both : {T E P Q R : Type 0} (r : Result T E) → (P → Q → R) → OnOk r P → OnOk r Q → OnOk r R
 on_both (Ok v) f p q = f p q
 on_both (Err e) f p q = tt

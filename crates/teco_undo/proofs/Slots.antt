@@ -1,5 +1,6 @@
 -- What stood in the place of a change that a slot holds has a slot too.
-use Rattle.std.proofs.Common.{◌≡◌, ℕ, ◌+◌, ◌<◌, ◌≤◌, ◌^◌, [], ◌∷◌, length, refl, sym, subst, arith}
+use Rattle.std.proofs.Common.{◌≡◌, ℕ, ◌+◌, ◌<◌, ◌≤◌, ◌^◌, [], ◌∷◌, length, ℤ, refl, sym, ◌∙◌, ap, subst, arith}
+use Rattle.teco_core.specs.declared.register.Reg.{Reg}
 use Rattle.teco_store.specs.ChangeView.{small_turn, IsHere}
 use Rattle.teco_store.specs.State.{Body, IsSound, replaced}
 use Rattle.teco_store.specs.Turn as turn
@@ -47,6 +48,19 @@ value_has step (value.HeldApart low) h = absurd h
 
 pub slot_has : (d : Slot) (s : SmallChange) → s ≡ small_of d → IsHere s → HasSlot s
 slot_has d s is h = subst HasSlot (sym is) (value_has d.step d.value (subst IsHere is h))
+
+-- A number that is read twice is that of one register.
+register_in : SlotValue → Reg → Reg
+register_in (value.Number q number) r = q
+register_in v r = r
+
+pub same_register : (v : SlotValue) (q r : Reg) (m n : ℤ) → v ≡ value.Number q m → v ≡ value.Number r n → q ≡ r
+unfolding register_in
+same_register v q r m n one other = ap (λ (x : SlotValue). register_in x q) (sym one ∙ other)
+
+pub number_here : (s : Slot) (q r : Reg) (m n : ℤ) → s.value ≡ value.Number q m → s.value ≡ value.Number r n → Number q n ≡ small_of s
+number_here s q r m n one other =
+    ap (λ (x : Reg). Number x n) (same_register s.value q r m n one other) ∙ sym (ap (slot_value s.step) other)
 
 -- by what it is for
 TurnFits : Turn → Type 0

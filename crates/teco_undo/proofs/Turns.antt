@@ -1,11 +1,11 @@
 -- A change is turned twice: body and change are as before.
 use Rattle.std.proofs.Common.{◌≡◌, ℕ, ◌+◌, ◌<◌, ◌≤◌, List, [], ◌∷◌, ◌++◌, length, take, drop, get_or, refl, sym, ◌∙◌, ap, subst, append_assoc, arith, length-append, length-drop, ℤ}
-use Rattle.std.proofs.lemmas.List.{append-nil, drop_all, take_at, drop_at, length-take-le, take-append-drop, drop-drop, length-set, get_or-set_same, set-set, set-get_or}
+use Rattle.std.proofs.lemmas.List.{append-nil, drop_all, take_all, take_at, drop_at, length-take-le, take-append-drop, drop-drop, length-set, get_or-set_same, set-set, set-get_or}
 use Rattle.teco_core.specs.Register.{Content, blank, content, with_content, with_number, with_text, numbered, texted}
 use Rattle.teco_store.specs.State.{Body, IsSound, replaced}
 use Rattle.teco_store.proofs.Loans.{length-lent}
 use Rattle.teco_undo.proofs.Loans.{lent_text}
-use Rattle.teco_store.specs.Turn.{Turn, Splice, Lend, Point, Number, Text, Push, TakeOff, PopInto, PutBack, Pages, Search, Found, Done, Mode, lent, top_of, body_after, turn_after, Stands, Fits}
+use Rattle.teco_store.specs.Turn.{Turn, Splice, Lend, PutIn, TakeOut, Point, Number, Text, Push, TakeOff, PopInto, PutBack, Pages, Search, Found, Done, Mode, lent, top_of, body_after, turn_after, Stands, Fits}
 
 -- the three parts of a list
 parts : (xs : List ℕ) (at n : ℕ) → take at xs ++ (take n (drop at xs) ++ drop (at + n) xs) ≡ xs
@@ -74,6 +74,12 @@ body_again (Lend from count there_from there pointer) b f =
     (ap (λ (n : ℕ). replaced (replaced b.text 0 (0 + there) put) 0 (0 + n) (lent b.input there_from there)) (sym came)
     ∙ ap (λ (l : List ℕ). replaced (replaced b.text 0 (0 + there) put) 0 (0 + length put) l) went
     ∙ replaced_back b.text put 0 there (omega (arith, ap length f.0.1, length-lent b.input there_from there)))
+body_again (PutIn held pointer) b f =
+    ap (λ (xs : List ℕ). let x : Body = record b { text = xs } in x) (replaced_back b.text held 0 0 (omega arith))
+body_again (TakeOut held pointer) b f =
+    let went : held ≡ take (length held) b.text = sym f ∙ sym (take_all (length held) b.text (omega (arith, ap length f))) in
+    ap (λ (xs : List ℕ). let x : Body = record b { text = xs } in x)
+    (ap (λ (l : List ℕ). replaced (replaced b.text 0 (0 + length held) []) 0 (0 + 0) l) went ∙ replaced_back b.text [] 0 (length held) (omega (arith, ap length f)))
 body_again (Point pointer) b f = refl
 body_again (Number q n) b f = ap (λ (rs : List Content). let x : Body = record b { registers = rs } in x) (number_back b.registers q n f)
 body_again (Text q held) b f = ap (λ (rs : List Content). let x : Body = record b { registers = rs } in x) (text_back b.registers q held f)
@@ -95,6 +101,8 @@ turn_again (Splice at there pointer held) b f =
     let taken : length (take there (drop at b.text)) ≡ there = length-take-le there (drop at b.text) (omega (arith, length-drop at b.text, f)) in
     rw (taken, in_place b.text held at there f) refl
 turn_again (Lend from count there_from there pointer) b f = refl
+turn_again (PutIn held pointer) b f = refl
+turn_again (TakeOut held pointer) b f = refl
 turn_again (Point pointer) b f = refl
 turn_again (Number q n) b f = ap (λ (c : Content). Number q c.number) (content_put b.registers q (numbered n (content b.registers q)) f)
 turn_again (Text q held) b f = ap (λ (c : Content). Text q c.text) (content_put b.registers q (texted held (content b.registers q)) f)
@@ -115,6 +123,8 @@ stands_after (Splice at there pointer held) b f =
     omega arith
 stands_after (Lend from count there_from there pointer) b f =
     ((f.1, replaced_all b.text (lent b.input from count) (0 + there) (omega (arith, ap length f.0.1, length-lent b.input there_from there))), f.0.0)
+stands_after (PutIn held pointer) b f = replaced_all b.text held (0 + 0) (ap length f)
+stands_after (TakeOut held pointer) b f = replaced_all b.text [] (0 + length held) (omega (arith, ap length f))
 stands_after (Point pointer) b f = tt
 stands_after (Number q n) b f = rw (length-set b.registers q (numbered n (content b.registers q))) f
 stands_after (Text q held) b f = rw (length-set b.registers q (texted held (content b.registers q))) f

@@ -3,7 +3,7 @@ use Rattle.std.specs.Prelude.{ℕ, ◌+◌, ◌≤◌, List, [], ◌∷◌, leng
 use Rattle.teco_core.specs.Register.{content}
 use Rattle.teco_store.specs.Search.{length_of}
 use Rattle.teco_store.specs.State.{Body}
-use Rattle.teco_store.specs.Turn.{Turn, Splice, Lend, Point, Number, Text, Push, TakeOff, PopInto, PutBack, Pages, Search, Found, Done, Mode, Note, Fits, top_of, body_after, note_after, held_by}
+use Rattle.teco_store.specs.Turn.{Turn, Splice, Lend, PutIn, TakeOut, Point, Number, Text, Push, TakeOff, PopInto, PutBack, Pages, Search, Found, Done, Mode, Note, Fits, top_of, body_after, note_after, held_by}
 
 -- the body and the changes after each is turned once, the last first
 abbrev pub body_back : List Note → Body → Body
@@ -53,6 +53,8 @@ of_step i cs = before (i + 1) (since i cs)
 abbrev pub weight : Turn → Body → ℕ
 weight (Splice at there pointer held) b = there + length held
 weight (Lend from count there_from there pointer) b = there + count
+weight (PutIn held pointer) b = length held
+weight (TakeOut held pointer) b = length held
 weight (Point pointer) b = 0
 weight (Number q number) b = 0
 weight (Text q held) b = length (content b.registers q).text + length held

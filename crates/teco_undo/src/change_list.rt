@@ -2,7 +2,7 @@
 ghost use Rattle.std.specs.Prelude.{◌≡◌, ◌↔◌, ◌+◌, ◌<◌, ◌≤◌, ◌^◌, ◌++◌, ◌∷◌, [], length, option_to_list, slice_index_or, IsOk, IsSome, OnOk};
 ghost use Rattle.std.proofs.Common.{set};
 ghost use Rattle.teco_store.specs.ChangeView.{small_turn};
-ghost use Rattle.teco_store.specs.Turn.{held_by, body_after, turn_after, note_after, full_after, Stands, FitsFull};
+ghost use Rattle.teco_store.specs.Turn.{held_by, body_after, turn_after, note_after, full_after, Stands, FitsFull, Number, Point};
 ghost use Rattle.teco_store.specs.Kinds.{kind_of, way_back, ChangesOnly};
 ghost use Rattle.teco_undo.specs.Listing.{no_note};
 ghost use Rattle.teco_undo.specs.Slots.{FitsSlot};
@@ -11,9 +11,35 @@ ghost use Rattle.teco_store.specs.State.{Body};
 use crate::slot::{Slot, SlotValue, halves_of};
 use std::alloc::Global;
 use std::marker::Model;
-use teco_core::NoMemory;
-use teco_store::change::{PartChange, PartValue, SmallChange};
-use teco_store::{Change, ChangeKind, Editor, change_laws};
+use teco_core::{NoMemory, Reg};
+use teco_store::change::{PartChange, SmallChange};
+use teco_store::{Change, ChangeKind, Desk, Editor, change_laws};
+
+// Puts a number into a register, and gives the one that stood there.
+#[inline(always)]
+fn swap_number(editor: &mut Editor, q: Reg, number: i32) -> i32
+    requires { FitsFull (Number q number) editor.old }
+    ensures editor { editor.new ≡ full_after (Number q number) editor.old }
+    ensures number { Number q result ≡ turn_after (Number q number) editor.old.body }
+{
+    let there = editor.registers().number(q);
+    let _held = editor.put_small(SmallChange::Number(q, number));
+    there
+}
+
+// Puts the pointer at a place, and gives the one where it stood.
+#[inline(always)]
+fn swap_pointer(editor: &mut Editor, pointer: u32) -> u32
+    requires { FitsFull (Point pointer) editor.old }
+    ensures editor { editor.new ≡ full_after (Point pointer) editor.old }
+    ensures pointer { Point result ≡ turn_after (Point pointer) editor.old.body }
+{
+    // This shows that what the editor holds is within its limits.
+    let _shown = editor.shown();
+    let there = editor.pointer() as u32;
+    let _held = editor.put_small(SmallChange::Point(pointer));
+    there
+}
 
 /// Changes, in the order in which they were made.
 ///
@@ -102,6 +128,8 @@ impl ChangeList {
     }
 
     /// Swaps what a change holds with what stands in its place. Takes no memory.
+    ///
+    /// Most changes are of a number, so that is asked first. Only the value is written.
     #[inline(always)]
     pub(crate) fn turn(&mut self, i: usize, editor: &mut Editor)
         requires within { i < length self.old.items }
@@ -110,17 +138,37 @@ impl ChangeList {
         ensures items { self.new.items ≡ set self.old.items i
             (note_after (slice_index_or self.old.items i no_note) editor.old.body) }
     {
+        let slot = &mut self.slots[i];
+        let value = slot.value;
+        if let SlotValue::Number(q, _) = value {
+            if let SlotValue::Number(_, number) = &mut slot.value {
+                *number = swap_number(editor, q, *number);
+            }
+        } else {
+            self.turn_other(i, editor);
+        }
+    }
+
+    // The same of a change of any kind.
+    #[inline(always)]
+    fn turn_other(&mut self, i: usize, editor: &mut Editor)
+        requires within { i < length self.old.items }
+        requires fits { FitsFull (slice_index_or self.old.items i no_note).turn editor.old }
+        ensures editor { editor.new ≡ full_after (slice_index_or self.old.items i no_note).turn editor.old }
+        ensures items { self.new.items ≡ set self.old.items i
+            (note_after (slice_index_or self.old.items i no_note) editor.old.body) }
+    {
         // This shows that what the editor holds is within its limits.
         let _shown = editor.shown();
-        let slot = self.slots[i];
+        let slot = &mut self.slots[i];
         match slot.small() {
             SmallChange::HeldApart(place) => self.apart[place].turn(editor),
+            SmallChange::Point(pointer) => {
+                slot.value = SlotValue::Point(swap_pointer(editor, pointer));
+            }
             small => {
                 let value = SlotValue::of(editor.put_small(small));
-                self.slots[i] = Slot {
-                    step: slot.step,
-                    value,
-                };
+                slot.value = value;
             }
         }
     }
@@ -137,40 +185,18 @@ impl ChangeList {
         self.apart.reserve(apart)
     }
 
-    /// Notes a change of a kind that has slots, at a place that was found. After 2^32 steps it is held apart. Takes no memory.
+    /// Notes a change of a kind that has slots, at a place that was found. Takes no memory.
     #[inline(always)]
-    pub(crate) fn push(&mut self, step: u64, small: SmallChange)
+    pub(crate) fn push(&mut self, step: u32, small: SmallChange)
         requires spare { 0 < self.old.spare }
-        requires apart { 2 ^ 32 ≤ step → 0 < self.old.apart }
         requires fits { FitsSlot small }
         ensures items { self.new.items
             ≡ self.old.items ++ record { step = step; turn = small_turn small } ∷ [] }
         ensures spare { self.new.spare + 1 ≡ self.old.spare }
-        ensures apart { step < 2 ^ 32 → self.new.apart ≡ self.old.apart }
-        ensures late { 2 ^ 32 ≤ step → self.new.apart + 1 ≡ self.old.apart }
+        ensures apart { self.new.apart ≡ self.old.apart }
     {
-        if step < 4_294_967_296 {
-            let value = SlotValue::of(small);
-            let step = step as u32;
-            self.slots.push_reserved(Slot { step, value });
-        } else {
-            self.push_late(step, small);
-        }
-    }
-
-    /// Notes a change of a kind that has slots after 2^32 steps, at places that were found: it is held apart. Takes no memory.
-    #[cold]
-    #[inline(never)]
-    fn push_late(&mut self, step: u64, small: SmallChange)
-        requires spare { 0 < self.old.spare }
-        requires apart { 0 < self.old.apart }
-        requires fits { FitsSlot small }
-        ensures items { self.new.items
-            ≡ self.old.items ++ record { step = step; turn = small_turn small } ∷ [] }
-        ensures spare { self.new.spare + 1 ≡ self.old.spare }
-        ensures apart { self.new.apart + 1 ≡ self.old.apart }
-    {
-        self.push_apart(step, PartChange::new(PartValue::Small(small)));
+        let value = SlotValue::of(small);
+        self.slots.push_reserved(Slot { step, value });
     }
 
     /// Notes a change that is held apart, at places that were found. Takes no memory.

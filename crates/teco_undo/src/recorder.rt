@@ -1,23 +1,24 @@
 //! A desk that notes each change, so that it can be turned back.
-ghost use Rattle.std.specs.Prelude.{◌≡◌, ℕ, ◌+◌, ◌<◌, ◌≤◌, ◌^◌, length, [], take, IfOk, IsOk, MatchOption, OnOk, OnErr};
+ghost use Rattle.std.specs.Prelude.{◌≡◌, ℕ, ◌+◌, ◌<◌, ◌≤◌, ◌^◌, length, [], take, MatchOption};
 ghost use Rattle.std.specs.Vec.{vec_capacity};
 ghost use Rattle.teco_undo.specs.Holding.{held_apart};
 ghost use Rattle.teco_store.specs.ChangeView.{small_turn, turn_of, HasRoom};
 ghost use Rattle.teco_undo.specs.Entry.{weight};
 ghost use Rattle.teco_undo.specs.Slots.{HasSlot};
-ghost use Rattle.teco_undo.specs.Follows.{Follows, FollowsAfterChanges, StillFollows, with_note};
+ghost use Rattle.teco_undo.specs.Follows.{Follows, FollowsAfterChanges};
 ghost use Rattle.teco_store.specs.State.{IsSound, state_of};
 ghost use Rattle.teco_store.specs.Trail.{Trail};
 ghost use Rattle.teco_store.specs.Turn.{body_after, full_after, FitsFull, Splice};
 
 mod pages;
 mod recording;
+mod room;
 mod texts;
 
 use crate::change_list::ChangeList;
 use std::marker::Model;
 use std::mem;
-use teco_core::{NoMemory, TEXT_LIMIT};
+use teco_core::TEXT_LIMIT;
 use teco_store::change::{PartChange, PartValue, SmallChange};
 use teco_store::{Editor, SHORT_LIMIT};
 
@@ -39,19 +40,6 @@ impl Model for Recorder {
     ghost Value = { Recording };
 
     ghost view = { λ r. record { full = r.editor; notes = r.entry.items; done = r.done; spare = spare_after r.done r.entry; apart = r.entry.apart } };
-}
-
-// How many places so many changes take among those that are held apart, which are all of them from 2^32 steps on.
-fn places_apart(done: u64, changes: usize, apart: usize) -> usize
-    ensures enough { apart ≤ result }
-    ensures late { 2 ^ 32 ≤ done → changes ≤ result }
-    ensures least { (n : ℕ) → apart ≤ n → (2 ^ 32 ≤ done → changes ≤ n) → result ≤ n }
-{
-    if done >= 4_294_967_296 && apart < changes {
-        changes
-    } else {
-        apart
-    }
 }
 
 impl Recorder {
@@ -112,124 +100,30 @@ impl Recorder {
         &mut self.editor
     }
 
-    // Finds room for so many more changes, and for so many of them that are held apart.
-    #[inline(always)]
-    fn reserve(&mut self, changes: usize, apart: usize) -> Result<(), NoMemory>
-        ensures full { self.new.full ≡ self.old.full }
-        ensures sound { IsSound self.new.full.room (length self.new.full.stored) self.new.full.body }
-        ensures spare { OnOk result (changes ≤ self.new.spare) }
-        ensures apart { OnOk result (apart ≤ self.new.apart) }
-        ensures with_room { changes ≤ self.old.spare → apart ≤ self.old.apart → IsOk result }
-        ensures keeps { StillFollows self.old self.new }
-    {
-        // This shows that what the editor holds is within its limits.
-        let _shown = self.editor.shown();
-        if self.done >= 4_294_967_296 {
-            return self.reserve_late(changes, apart);
-        }
-        self.entry.reserve(changes, apart)
-    }
-
-    // The same after 2^32 steps, when all are held apart.
-    #[cold]
-    #[inline(never)]
-    fn reserve_late(&mut self, changes: usize, apart: usize) -> Result<(), NoMemory>
-        ensures full { self.new.full ≡ self.old.full }
-        ensures sound { IsSound self.new.full.room (length self.new.full.stored) self.new.full.body }
-        ensures spare { OnOk result (changes ≤ self.new.spare) }
-        ensures apart { OnOk result (apart ≤ self.new.apart) }
-        ensures with_room { changes ≤ self.old.spare → apart ≤ self.old.apart → IsOk result }
-        ensures keeps { StillFollows self.old self.new }
-    {
-        // This shows that what the editor holds is within its limits.
-        let _shown = self.editor.shown();
-        let places = places_apart(self.done, changes, apart);
-        self.entry.reserve(changes, places)
-    }
-
-    // Makes room for a text of `len` bytes.
-    fn reserve_text(&mut self, len: usize) -> Result<(), NoMemory>
-        ensures body { self.new.full.body ≡ self.old.full.body }
-        ensures stored { self.new.full.stored ≡ self.old.full.stored }
-        ensures spare { self.new.spare ≡ self.old.spare }
-        ensures apart { self.new.apart ≡ self.old.apart }
-        ensures room { OnOk result (len ≤ self.new.full.room) }
-        ensures sound { IsSound self.new.full.room (length self.new.full.stored) self.new.full.body }
-        ensures keeps { StillFollows self.old self.new }
-    {
-        // This shows that what the editor holds is within its limits.
-        let _shown = self.editor.shown();
-        self.editor.reserve(len)
-    }
-
-    // Finds room for so many more changes, for so many of them that are held apart, and for a text of `len` bytes.
-    fn find_room(&mut self, changes: usize, apart: usize, len: usize) -> Result<(), NoMemory>
-        ensures body { self.new.full.body ≡ self.old.full.body }
-        ensures stored { self.new.full.stored ≡ self.old.full.stored }
-        ensures sound { IsSound self.new.full.room (length self.new.full.stored) self.new.full.body }
-        ensures spare { OnOk result (changes ≤ self.new.spare) }
-        ensures apart { OnOk result (apart ≤ self.new.apart) }
-        ensures room { OnOk result (len ≤ self.new.full.room) }
-        ensures keeps { StillFollows self.old self.new }
-    {
-        self.reserve(changes, apart)?;
-        self.reserve_text(len)
-    }
-
-    // Finds memory for so many changes, for so many of them that are held apart, for `bytes` bytes that are to be noted, and for a text
-    // of `len` bytes.
-    fn find_memory(
-        &mut self,
-        changes: usize,
-        apart: usize,
-        bytes: usize,
-        len: usize,
-    ) -> Result<Vec<u8>, NoMemory>
-        ensures body { self.new.full.body ≡ self.old.full.body }
-        ensures stored { self.new.full.stored ≡ self.old.full.stored }
-        ensures sound { IsSound self.new.full.room (length self.new.full.stored) self.new.full.body }
-        ensures ok { IfOk result (λ v. (v.items ≡ []) × (vec_capacity v ≡ bytes)) }
-        ensures spare { OnOk result (changes ≤ self.new.spare) }
-        ensures apart { OnOk result (apart ≤ self.new.apart) }
-        ensures room { OnOk result (len ≤ self.new.full.room) }
-        ensures keeps { StillFollows self.old self.new }
-    {
-        self.find_room(changes, apart, len)?;
-        Vec::with_capacity(self.editor.allocator(), bytes)
-    }
-
-    // Finds room for so many changes, for so many of them that are held apart beside the splice, and for a text of `len` bytes; and
-    // memory for `bytes` bytes that are to be noted, where they are not few.
-    fn find_held(
-        &mut self,
-        changes: usize,
-        apart: usize,
-        bytes: usize,
-        len: usize,
-    ) -> Result<Option<Vec<u8>>, NoMemory>
-        requires { apart ≤ 1 }
-        ensures body { self.new.full.body ≡ self.old.full.body }
-        ensures stored { self.new.full.stored ≡ self.old.full.stored }
-        ensures sound { IsSound self.new.full.room (length self.new.full.stored) self.new.full.body }
-        ensures held { IfOk result (λ held. MatchOption held (bytes ≤ SHORT_LIMIT)
-            (λ v. (v.items ≡ []) × (bytes ≤ vec_capacity v) × (SHORT_LIMIT < bytes))) }
-        ensures spare { OnOk result (changes ≤ self.new.spare) }
-        ensures apart { OnOk result (apart + held_apart bytes ≤ self.new.apart) }
-        ensures room { OnOk result (len ≤ self.new.full.room) }
-        ensures keeps { StillFollows self.old self.new }
-    {
-        let apart = apart + usize::from(bytes != 1);
-        if bytes <= SHORT_LIMIT {
-            self.find_room(changes, apart, len)?;
-            return Ok(None);
-        }
-        let held = self.find_memory(changes, apart, bytes, len)?;
-        Ok(Some(held))
-    }
-
-    // Puts a value that lies in its change in its place, and notes what stood there.
+    // Puts a value that lies in its change in its place, and notes what stood there. After 2^32 steps it is held apart.
     #[inline(always)]
     fn note(&mut self, small: SmallChange)
+        requires spare { 0 < self.old.spare }
+        requires here { HasSlot small }
+        requires fits { FitsFull (small_turn small) self.old.full }
+        requires rises { self.old.full.body.output ≤ (body_after (small_turn small) self.old.full.body).output }
+        ensures full { self.new.full ≡ full_after (small_turn small) self.old.full }
+        ensures sound { IsSound self.new.full.room (length self.new.full.stored) self.new.full.body }
+        ensures spare { self.new.spare + 1 ≡ self.old.spare }
+        ensures apart { (k : ℕ) → k ≤ self.new.spare → k ≤ self.old.apart → k ≤ self.new.apart }
+        ensures goes { FollowsAfterChanges (weight (small_turn small) self.old.full.body) 1 self.old self.new }
+    {
+        if self.done >= 4_294_967_296 {
+            self.note_apart(PartValue::Small(small));
+        } else {
+            self.note_early(small);
+        }
+    }
+
+    // The same before 2^32 steps.
+    #[inline(always)]
+    fn note_early(&mut self, small: SmallChange)
+        requires early { self.old.done < 2 ^ 32 }
         requires spare { 0 < self.old.spare }
         requires here { HasSlot small }
         requires fits { FitsFull (small_turn small) self.old.full }
@@ -243,7 +137,7 @@ impl Recorder {
         // This shows that what the editor holds is within its limits.
         let _shown = self.editor.shown();
         let held = self.editor.put_small(small);
-        self.entry.push(self.done, held);
+        self.entry.push(self.done as u32, held);
     }
 
     // Puts a value in its place, and notes what stood there, which is held apart.

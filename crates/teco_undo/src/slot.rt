@@ -63,7 +63,9 @@ fn pointer_in(low: u16, word: u32) -> u32
 
 impl SlotValue {
     /// The value of a change that has a slot.
-    #[inline]
+    ///
+    /// In line, since the kind of a change that is noted is known: then nothing is matched.
+    #[inline(always)]
     pub(crate) fn of(small: SmallChange) -> SlotValue
         requires { FitsSlot small }
         ensures { (step : ℕ) → slot_value step result ≡ small }

@@ -2,7 +2,7 @@
 ghost use Rattle.std.specs.Prelude.{◌≡◌, ◌+◌, ◌≤◌, [], length};
 ghost use Rattle.std.specs.Vec.{vec_capacity};
 ghost use Rattle.teco_store.specs.ChangeView.{small_turn, turn_of, HasRoom, IsHere};
-ghost use Rattle.teco_store.specs.declared.change.PartValue.TheVariants.{Splice, Lend, PopInto, PutBack};
+ghost use Rattle.teco_store.specs.declared.change.PartValue.TheVariants.{Splice, Lend, PutIn, TakeOut, PopInto, PutBack};
 ghost use Rattle.teco_store.specs.Turn as turn;
 ghost use Rattle.teco_store.specs.Turn.{turn_after, full_after, FitsFull};
 
@@ -10,7 +10,9 @@ use crate::change::{Loan, PartValue, SmallChange, TextSpan};
 use crate::editor::Editor;
 use crate::exchange::{exchange, exchange_short, swap_bytes};
 use crate::short_text::SHORT_LIMIT;
+use std::alloc::Global;
 use std::mem;
+use std::sync::Arc;
 use teco_core::{Reg, Value};
 
 impl Editor {
@@ -91,6 +93,8 @@ impl Editor {
                 place.pointer as usize,
             ),
             PartValue::Lend(loan) => self.put_lent(loan),
+            PartValue::PutIn(text, pointer) => self.put_in(text, pointer),
+            PartValue::TakeOut(text, pointer) => self.take_out(text, pointer),
             PartValue::Text(q, mut held) => {
                 self.registers.swap_text(q, &mut held);
                 PartValue::Text(q, held)
@@ -143,6 +147,30 @@ impl Editor {
             old_len: loan.len,
             pointer,
         })
+    }
+
+    // Puts a text that has other owners too in the empty buffer.
+    fn put_in(&mut self, text: Arc<Vec<u8>, Global>, pointer: u32) -> PartValue
+        requires { FitsFull (turn_of (PutIn text pointer)) self.old }
+        ensures editor { self.new ≡ full_after (turn_of (PutIn text pointer)) self.old }
+        ensures kind { turn_of result ≡ turn_after (turn_of (PutIn text pointer)) self.old.body }
+        ensures room { HasRoom result }
+    {
+        self.text.splice(0, 0, text.as_slice());
+        let there = mem::replace(&mut self.pointer, pointer as usize);
+        PartValue::TakeOut(text, there as u32)
+    }
+
+    // Takes the text out of the buffer, which has other owners too.
+    fn take_out(&mut self, text: Arc<Vec<u8>, Global>, pointer: u32) -> PartValue
+        requires { FitsFull (turn_of (TakeOut text pointer)) self.old }
+        ensures editor { self.new ≡ full_after (turn_of (TakeOut text pointer)) self.old }
+        ensures kind { turn_of result ≡ turn_after (turn_of (TakeOut text pointer)) self.old.body }
+        ensures room { HasRoom result }
+    {
+        self.text.splice(0, text.len(), &[]);
+        let there = mem::replace(&mut self.pointer, pointer as usize);
+        PartValue::PutIn(text, there as u32)
     }
 
     /// Puts `ins` for the `there` bytes at `at`, and gives those that stood there in `held`, which is empty.

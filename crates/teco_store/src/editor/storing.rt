@@ -1,13 +1,15 @@
 //! How an editor gets room, and how its output is stored before it counts.
-ghost use Rattle.std.specs.Prelude.{◌≡◌, ◌+◌, ◌≤◌, ◌++◌, length, take, drop, slice_range, IfSome, OnOk, OnErr};
+ghost use Rattle.std.specs.Prelude.{◌≡◌, ◌+◌, ◌≤◌, ◌++◌, length, take, drop, slice_range, IfOk, IfSome, OnOk, OnErr};
+ghost use Rattle.std.specs.Arc.{arc_value};
 ghost use Rattle.teco_store.specs.PageSpan.{IsPageSpan};
 ghost use Rattle.teco_store.specs.Page.{finished, form_feed_if, left_of, with_next_page, with_range_written, written, IsAsRead};
 ghost use Rattle.teco_store.specs.State.{Extends, IsEnd, IsSound, state_of, with_stored};
 
 use crate::editor::Editor;
 use crate::output::place_read;
-use crate::pages::{PageSpan, end_after, next_page, part};
+use crate::pages::{PageSpan, append_within, end_after, next_page, part};
 use std::alloc::Global;
+use std::sync::Arc;
 use teco_core::NoMemory;
 
 impl Editor {
@@ -59,7 +61,7 @@ impl Editor {
         ensures editor { self.new ≡ record self.old { stored = take self.old.body.output self.old.stored } }
         ensures extends { Extends self.old self.new }
     {
-        self.output.cut(self.shown);
+        self.output.cut(&self.input, self.shown);
     }
 
     /// Makes room for a text of `len` bytes.
@@ -135,5 +137,36 @@ impl Editor {
         let halves = self.text.halves();
         let rest = (self.place, upto);
         self.output.store(&self.input, self.shown, from, halves, self.form_feed, rest)
+    }
+
+    /// A copy of the text, which may have several owners.
+    pub fn shared_text(&self) -> Result<Arc<Vec<u8>, Global>, NoMemory>
+        ensures { IfOk result (λ text. (arc_value text).items ≡ self.now.body.text) }
+    {
+        let alloc = self.allocator();
+        // This shows that the text has less than 2^63 bytes.
+        let _len = self.text.len();
+        let (before, after) = self.text.halves();
+        let mut text = Vec::with_capacity(alloc, before.len() + after.len())?;
+        append_within(&mut text, before);
+        append_within(&mut text, after);
+        Ok(Arc::new(alloc, text)?)
+    }
+
+    /// Stores the page after the output, and the input from its place up to another. The text of the page is given: it is shared, and not
+    /// copied.
+    pub fn store_shared(&mut self, text: &Arc<Vec<u8>, Global>, upto: usize) -> Result<(), NoMemory>
+        requires text { (arc_value text.now).items ≡ self.old.body.text }
+        requires order { self.old.body.place ≤ upto }
+        requires within { upto ≤ length self.old.body.input }
+        ensures ok { OnOk result (self.new
+            ≡ with_stored self.old (written (state_of self.old)
+            ++ slice_range self.old.body.input self.old.body.place upto) self.old.room) }
+        ensures err { OnErr result (self.new ≡ self.old) }
+        ensures extends { Extends self.old self.new }
+    {
+        let rest = (self.place, upto);
+        self.output
+            .share(&self.input, self.shown, text, self.form_feed, rest)
     }
 }

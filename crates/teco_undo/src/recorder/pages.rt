@@ -1,5 +1,6 @@
 //! Pages come in and go out, and what stood there is noted.
 ghost use Rattle.std.specs.Prelude.{◌≡◌, ◌+◌, ◌<◌, ◌≤◌, ◌^◌, ◌++◌, [], length, take, drop, slice_range, IfOk, IfSome, OnOk, OnErr};
+ghost use Rattle.std.specs.Arc.{arc_value};
 ghost use Rattle.std.specs.Vec.{vec_capacity};
 ghost use Rattle.teco_undo.specs.Holding.{CanHold};
 ghost use Rattle.teco_store.specs.PageSpan.{IsPageSpan};
@@ -10,6 +11,8 @@ ghost use Rattle.teco_store.specs.Turn.{full_after, lent, IsLent, Splice};
 
 use crate::held::Held;
 use crate::recorder::Recorder;
+use std::alloc::Global;
+use std::sync::Arc;
 use teco_core::{FILE_LIMIT, NoMemory, TEXT_LIMIT};
 use teco_store::change::{Loan, PartChange, PartValue, SmallChange};
 use teco_store::{Desk, PageSpan};
@@ -82,6 +85,79 @@ impl Recorder {
         }
         let held = self.find_memory(changes, 2, there + len, len)?;
         Ok(Held::Memory(held))
+    }
+
+    // Stores the page after the output, and the input from its place up to another. The text of the page is given: it isn't copied.
+    fn store_shared(&mut self, text: &Arc<Vec<u8>, Global>, upto: usize) -> Result<(), NoMemory>
+        requires text { (arc_value text.now).items ≡ self.old.full.body.text }
+        requires order { self.old.full.body.place ≤ upto }
+        requires within { upto ≤ length self.old.full.body.input }
+        ensures ok { OnOk result (self.new.full
+            ≡ with_stored self.old.full (written (state_of self.old.full)
+            ++ slice_range self.old.full.body.input self.old.full.body.place upto) self.old.full.room) }
+        ensures err { OnErr result (self.new.full ≡ self.old.full) }
+        ensures spare { self.new.spare ≡ self.old.spare }
+        ensures apart { self.new.apart ≡ self.old.apart }
+        ensures sound { IsSound self.new.full.room (length self.new.full.stored) self.new.full.body }
+        ensures keeps { StillFollows self.old self.new }
+    {
+        // This shows that what the editor holds is within its limits.
+        let _shown = self.editor.shown();
+        self.editor.store_shared(text, upto)
+    }
+
+    // Stores the page after the output, and the input from its place up to another; and takes the text out, which is noted. There is room
+    // for both. A page that stands in the input isn't copied, and any other is held once, by the output and the change.
+    fn take_out(&mut self, from: Option<usize>, upto: usize) -> Result<(), NoMemory>
+        requires spare { 0 < self.old.spare }
+        requires apart { 0 < self.old.apart }
+        requires from { IfSome from (IsAsRead self.old.full.body) }
+        requires order { self.old.full.body.place ≤ upto }
+        requires within { upto ≤ length self.old.full.body.input }
+        ensures body { OnOk result (self.new.full.body ≡ record self.old.full.body { text = []; pointer = 0 }) }
+        ensures stored { OnOk result (self.new.full.stored ≡ take self.old.full.body.output self.old.full.stored
+            ++ (written (state_of self.old.full)
+            ++ slice_range self.old.full.body.input self.old.full.body.place upto)) }
+        ensures err { OnErr result (self.new.full ≡ self.old.full) }
+        ensures sound { IsSound self.new.full.room (length self.new.full.stored) self.new.full.body }
+        ensures spare { OnOk result (self.new.spare + 1 ≡ self.old.spare) }
+        ensures apart { OnOk result (self.new.apart + 1 ≡ self.old.apart) }
+        ensures goes { OnOk result (FollowsAfterChanges (length self.old.full.body.text) 1 self.old self.new) }
+        ensures keeps { OnErr result (StillFollows self.old self.new) }
+    {
+        // This shows that what the editor holds is within its limits.
+        let there = self.editor.len();
+        if let Some(from) = from {
+            self.store_upto(Some(from), upto)?;
+            self.put_input(0, 0, 0, there, 0, Held::Input(from));
+            return Ok(());
+        }
+        let text = self.editor.shared_text()?;
+        self.store_shared(&text, upto)?;
+        self.note_apart(PartValue::TakeOut(text, 0));
+        Ok(())
+    }
+
+    // Finds room, stores the page after the output and the rest of the input, and takes the text out, which is noted. There is then room
+    // for two changes more, one of them held apart.
+    pub(super) fn write_rest(&mut self) -> Result<(), NoMemory>
+        ensures body { OnOk result (self.new.full.body ≡ record self.old.full.body { text = []; pointer = 0 }) }
+        ensures stored { OnOk result (self.new.full.stored ≡ take self.old.full.body.output self.old.full.stored
+            ++ (written (state_of self.old.full) ++ left_of self.old.full.body)) }
+        ensures body_same { OnErr result (self.new.full.body ≡ self.old.full.body) }
+        ensures stored_same { OnErr result (self.new.full.stored ≡ self.old.full.stored) }
+        ensures sound { IsSound self.new.full.room (length self.new.full.stored) self.new.full.body }
+        ensures spare { OnOk result (2 ≤ self.new.spare) }
+        ensures apart { OnOk result (1 ≤ self.new.apart) }
+        ensures goes { OnOk result (FollowsAfterChanges (length self.old.full.body.text) 1 self.old self.new) }
+        ensures keeps { OnErr result (StillFollows self.old self.new) }
+    {
+        // This shows that what the editor holds is within its limits.
+        let _shown = self.editor.shown();
+        let from = self.editor.place_of_page();
+        let over = self.editor.input().len();
+        self.find_room(3, 2, 0)?;
+        self.take_out(from, over)
     }
 
     // Puts `count` bytes of the input from `from` on for the `there` bytes at `at`. It notes those that stood there in memory that was

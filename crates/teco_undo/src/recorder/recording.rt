@@ -17,7 +17,7 @@ use teco_store::change::{PartValue, SmallChange};
 use teco_store::{Desk, Refused, Slices, is_long, is_past};
 
 impl Recorder {
-    // Finds room for one change whose value lies in it, and makes it.
+    // Finds room for one change whose value lies in it, and makes it. After 2^32 steps it is held apart.
     #[inline(always)]
     fn change(&mut self, small: SmallChange) -> Result<(), Refused>
         requires here { HasSlot small }
@@ -32,8 +32,11 @@ impl Recorder {
         ensures keeps { OnErr result (StillFollows self.old self.new) }
         ensures with_room { 0 < self.old.spare → IsOk result }
     {
-        self.reserve(1, 0)?;
-        self.note(small);
+        if self.done >= 4_294_967_296 {
+            return self.change_apart(PartValue::Small(small));
+        }
+        self.reserve_early(1, 0)?;
+        self.note_early(small);
         Ok(())
     }
 
@@ -132,7 +135,8 @@ impl Desk for Recorder {
         Ok(())
     }
 
-    // Where the pointer is already, nothing is noted.
+    // Where the pointer is already, nothing is noted. Out of line, so that what calls it can stand in line.
+    #[inline(never)]
     fn point(&mut self, place: usize) -> Result<(), Refused> {
         if place == self.editor.pointer() {
             return Ok(());
@@ -140,7 +144,8 @@ impl Desk for Recorder {
         self.change(SmallChange::Point(place as u32))
     }
 
-    #[inline(always)]
+    // Out of line too, since the steps of a run are so long with it that Rattle would no longer put them in line.
+    #[inline(never)]
     fn set_number(&mut self, q: Reg, number: i32) -> Result<(), Refused> {
         // This shows that the register is one of 36.
         let _index = q.index();
@@ -271,11 +276,8 @@ impl Desk for Recorder {
         let Some(end) = editor.end_after_rest() else {
             return Err(Refused::Big);
         };
-        let there = editor.len();
         let over = editor.input().len();
-        let held = self.hold_page(3, there, 0)?;
-        self.store_upto(held.place(), over)?;
-        self.put_input(0, 0, 0, there, 0, held);
+        self.write_rest()?;
         self.note_apart(PartValue::Small(SmallChange::Pages {
             place: over as u32,
             end: end as u32,

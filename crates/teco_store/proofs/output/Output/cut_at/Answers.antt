@@ -2,7 +2,7 @@ use Rattle.std.proofs.Common.{◌≡◌, ◌+◌, ◌-◌, ◌<◌, ◌∷◌, [
 use Rattle.std.specs.List.{sum_by}
 use Rattle.std.proofs.lemmas.List.Sums.{sum_by_push}
 use Rattle.teco_store.specs.Output.{IsFront}
-use Rattle.teco_store.specs.Parts.{own_size, size, without}
+use Rattle.teco_store.specs.Parts.{own_size, size}
 use Rattle.teco_store.specs.declared.parts.Part.{Part}
 use Rattle.teco_store.proofs.Fronts.{front_of, sum_with}
 use Rattle.teco_store.proofs.output.Output.cut_at.Goals as goal

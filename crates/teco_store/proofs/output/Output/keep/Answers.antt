@@ -1,7 +1,7 @@
 use Rattle.std.proofs.Common.{◌≡◌, ◌∙◌, ap, sym, subst, arith, length, List, ℕ, take}
 use Rattle.std.specs.List.{All, sum_by}
 use Rattle.std.proofs.lemmas.List.{length-take-le}
-use Rattle.teco_store.specs.Output.{kept}
+use Rattle.teco_store.specs.Output.{kept, source_of}
 use Rattle.teco_store.specs.Parts.{joined, own_size, size, EndsWithin, IsOrdered}
 use Rattle.teco_store.specs.declared.parts.Part.{Part}
 use Rattle.teco_store.proofs.Outputs.{kept_bytes}
@@ -25,8 +25,8 @@ returns-clause-bytes c = λ input inside.
           own = ap (sum_by own_size) new ∙ own_is ∙ sym long;
           len = ap (sum_by size) new ∙ front.size_is;
         },
-        subst (All (EndsWithin (length input))) (sym new) (front.ends (length input) inside.1),
+        subst (All (EndsWithin (length (source_of o input)))) (sym new) (front.ends (length (source_of o input)) inside.1),
       ),
-      ap (λ (l : List ℕ). joined l input c.keep.new.parts.items) own ∙ ap (λ (ps : List Part). joined (take cut.own o.own.items) input ps) new
-          ∙ kept_bytes o.own.items input o.parts.items qs c.args.shown cut.own all front own_is inside.1,
+      ap (λ (l : List ℕ). joined l (source_of o input) c.keep.new.parts.items) own ∙ ap (λ (ps : List Part). joined (take cut.own o.own.items) (source_of o input) ps) new
+          ∙ kept_bytes o.own.items (source_of o input) o.parts.items qs c.args.shown cut.own all front own_is inside.1,
     )

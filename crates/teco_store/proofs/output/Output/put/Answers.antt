@@ -1,5 +1,6 @@
 use Rattle.std.proofs.Common.{◌≡◌, ◌∙◌, ◌+◌, ◌++◌, ap, append_assoc, arith, length, length-append, List, ℕ}
 use Rattle.std.proofs.lemmas.Grind.{common_steps}
+use Rattle.teco_store.specs.Output.{source_of}
 use Rattle.teco_store.specs.Page.{form_feed_if}
 use Rattle.teco_store.specs.Parts.{joined}
 use Rattle.teco_store.proofs.Outputs.{put_bytes}
@@ -31,7 +32,7 @@ returns-clause-bytes c = λ input inside.
           own = omega arith;
           len = omega arith;
         },
-        adds.ends (length input) inside.1 tt,
+        adds.ends (length (source_of o input)) inside.1 tt,
       ),
-      ap (λ (l : List ℕ). joined l input c.add.new.parts.items) own ∙ put_bytes o.own.items more input o.parts.items c.add.new.parts.items count all long adds,
+      ap (λ (l : List ℕ). joined l (source_of o input) c.add.new.parts.items) own ∙ put_bytes o.own.items more (source_of o input) o.parts.items c.add.new.parts.items count all long adds,
     )

@@ -6,4 +6,4 @@ use Rattle.teco_store.proofs.slices.Slices.len.Goals as goal
 
 pub returns : goal.returns
 unfolding bytes_in
-returns c = let s = c.args.self in sym (length-take-le s.len (s.first.now ++ joined s.own.now s.input.now s.parts.now) s.within)
+returns c = let s = c.args.self in sym (length-take-le s.len (s.first.now ++ joined s.own.now (s.input.now ++ s.shared.now) s.parts.now) s.within)

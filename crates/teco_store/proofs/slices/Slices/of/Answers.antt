@@ -1,4 +1,4 @@
-use Rattle.std.proofs.Common.{◌≡◌, ◌∙◌, ◌++◌, ap, arith, length, take, List, [], ℕ}
+use Rattle.std.proofs.Common.{◌∙◌, ap, arith, length, take, List, ℕ}
 use Rattle.std.proofs.lemmas.List.{append-nil, take_all}
 use Rattle.teco_store.specs.Slices.{bytes_in}
 use Rattle.teco_store.proofs.slices.Slices.of.Goals as goal

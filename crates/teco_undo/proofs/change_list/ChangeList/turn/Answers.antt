@@ -1,46 +1,37 @@
-use Rattle.std.proofs.Common.{ap, sym, ◌∙◌, refl, rules, subst}
-use Rattle.teco_store.specs.ChangeView.{IsHere, small_turn}
-use Rattle.teco_store.specs.Turn.{Note, full_after, FitsFull}
-use Rattle.teco_undo.proofs.Listing.{apart_within, seen_apart, seen_here, turned_apart, turned_here, in_place-turned}
-use Rattle.teco_undo.proofs.Slots.{slot_has, turned_fits}
+use Rattle.std.proofs.Common.{◌≡◌, ◌∙◌, ap, sym, refl, rules, subst, to_z, of_z, w32}
+use Rattle.teco_core.specs.declared.register.Reg.{Reg}
+use Rattle.teco_store.specs.ChangeView.{IsHere}
+use Rattle.teco_store.specs.Turn as turn
+use Rattle.teco_store.specs.Turn.{Note, FitsFull, turn_after}
+use Rattle.teco_store.specs.declared.change.SmallChange.TheVariants as small
+use Rattle.teco_undo.specs.Slots.{small_of, slot_value}
+use Rattle.teco_undo.proofs.Listing.{seen_here, turned_here, in_place-turned}
+use Rattle.teco_undo.proofs.Slots.{same_register, number_here}
 use Rattle.teco_undo.proofs.change_list.ChangeList.turn.Goals as goal
 
-pub index_mut-requires : goal.index_mut-requires
-index_mut-requires c = let lt = apart_within c.self.inside c.args.self.now c.args.i c.in-HeldApart.place c.index.result.now c.self.view_is c.self.invariant c.requires.within c.index.ensures (sym c.small.ensures ∙ c.in-HeldApart.is) in search (rules, lt)
-
-pub turn-requires : goal.turn-requires
-turn-requires c =
-    let seen = seen_apart c.self.inside c.args.self.now c.args.i c.in-HeldApart.place c.index.result.now c.index_mut.result.now c.self.view_is c.self.invariant c.requires.within c.index.ensures (sym c.small.ensures ∙ c.in-HeldApart.is) c.index_mut.ensures.value in
-    subst (λ (n : Note). FitsFull n.turn c.args.editor.now) seen c.requires.fits
-
-pub returns-in-HeldApart-clause-editor : goal.returns-in-HeldApart-clause-editor
-returns-in-HeldApart-clause-editor c =
-    let seen = seen_apart c.self.inside c.args.self.now c.args.i c.in-HeldApart.place c.index.result.now c.index_mut.result.now c.self.view_is c.self.invariant c.requires.within c.index.ensures (sym c.small.ensures ∙ c.in-HeldApart.is) c.index_mut.ensures.value in
-    c.turn.ensures.editor ∙ ap (λ (n : Note). full_after n.turn c.args.editor.now) (sym seen)
-
-pub returns-in-HeldApart-clause-items : goal.returns-in-HeldApart-clause-items
-returns-in-HeldApart-clause-items c =
-    turned_apart c.self.inside c.args.self.now c.args.i c.in-HeldApart.place c.index.result.now c.index_mut.result.now c.turn.new.self c.args.editor.now.body c.self.view_is c.self.invariant c.requires.within c.index.ensures (sym c.small.ensures ∙ c.in-HeldApart.is) c.index_mut.ensures.value c.turn.ensures.change
-
-pub invariant_of-self-in_default : goal.invariant_of-self-in_default
-invariant_of-self-in_default c =
-    let here : IsHere c.small.result = search rules in
-    in_place-turned c.self.inside c.args.i c.index.result.now _ c.self.invariant c.index.ensures (subst IsHere c.small.ensures here) (subst IsHere (sym (c.of-value.ensures _)) c.put_small.ensures.here)
-
-pub returns-in_default : goal.returns-in_default
-returns-in_default c =
-    let here : IsHere c.small.result = search rules in
-    let seen = seen_here c.self.inside c.args.self.now c.args.i c.index.result.now c.small.result c.self.view_is c.requires.within c.index.ensures c.small.ensures here in
-    let held = c.of-value.ensures c.index.result.now.step in
-    record {
-      editor = c.put_small.ensures.editor ∙ ap (λ (n : Note). full_after n.turn c.args.editor.now) (sym seen);
-      items = turned_here c.self.inside c.args.self.now c.args.i c.index.result.now _ c.small.result c.args.editor.now.body c.self.view_is c.requires.within c.index.ensures c.small.ensures here
-          (subst IsHere (sym held) c.put_small.ensures.here) refl (ap small_turn held ∙ c.put_small.ensures.small);
-    }
-
-pub of-value-requires : goal.of-value-requires
-of-value-requires c =
-    let here : IsHere c.small.result = search rules in
-    let seen = seen_here c.self.inside c.args.self.now c.args.i c.index.result.now c.small.result c.self.view_is c.requires.within c.index.ensures c.small.ensures here in
+pub swap_number-requires : goal.swap_number-requires
+swap_number-requires c =
+    let slot = c.index_mut-slot.result.now in
+    let number = c.in-Number-value.number in
+    let at : small.Number c.in-Number.q number ≡ small_of slot = number_here slot c.in-Number.q c.in-Number-value.field-0 c.in-Number.field-1 number c.in-Number.is c.in-Number-value.is in
+    let seen = seen_here c.self.inside c.args.self.now c.args.i slot (small.Number c.in-Number.q number) c.self.view_is c.requires.within c.index_mut-slot.ensures.value at tt in
     let fits = subst (λ (n : Note). FitsFull n.turn c.args.editor.now) seen c.requires.fits in
-    turned_fits c.args.editor.now.room _ c.small.result c.put_small.result c.args.editor.now.body (slot_has c.index.result.now c.small.result c.small.ensures here) c.shown-shown.ensures.sound fits c.put_small.ensures.small
+    search (rules, fits)
+
+pub invariant_of-self : goal.invariant_of-self
+invariant_of-self c =
+    let slot = c.index_mut-slot.result.now in
+    let at : small.Number c.in-Number-value.field-0 c.in-Number-value.number ≡ small_of slot = sym (ap (slot_value slot.step) c.in-Number-value.is) in
+    in_place-turned c.self.inside c.args.i slot _ c.self.invariant c.index_mut-slot.ensures.value (subst IsHere at tt) tt
+
+pub returns-in-Number-value-clause-items : goal.returns-in-Number-value-clause-items
+returns-in-Number-value-clause-items c =
+    let slot = c.index_mut-slot.result.now in
+    let q = c.in-Number.q in
+    let number = c.in-Number-value.number in
+    let there = to_z w32 (of_z w32 c.swap_number.result) in
+    let same : q ≡ c.in-Number-value.field-0 = same_register slot.value q c.in-Number-value.field-0 c.in-Number.field-1 number c.in-Number.is c.in-Number-value.is in
+    let at : small.Number q number ≡ small_of slot = number_here slot q c.in-Number-value.field-0 c.in-Number.field-1 number c.in-Number.is c.in-Number-value.is in
+    let turned : turn.Number q there ≡ turn_after (turn.Number q number) c.args.editor.now.body = search (rules, c.swap_number.ensures.number) in
+    turned_here c.self.inside c.args.self.now c.args.i slot _ (small.Number q number) c.args.editor.now.body c.self.view_is c.requires.within c.index_mut-slot.ensures.value
+    at tt tt refl (ap (λ (r : Reg). turn.Number r there) (sym same) ∙ turned)

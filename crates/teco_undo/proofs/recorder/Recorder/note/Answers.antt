@@ -1,34 +1,22 @@
-use Rattle.std.proofs.Common.{rules, ap, length, subst, sym}
-use Rattle.teco_store.specs.ChangeView.{small_turn}
-use Rattle.teco_undo.proofs.Recordings.{goes_noted}
+use Rattle.std.proofs.Common.{ap, arith, ◌≡◌, ◌≤◌, ◌^◌}
 use Rattle.teco_undo.specs.Follows.{Recording}
-use Rattle.teco_store.specs.State.{Full}
-use Rattle.teco_store.specs.Turn.{FitsFull}
-use Rattle.teco_undo.proofs.Rooms.{first_apart, first_place, one_less_seen, places_left}
-use Rattle.teco_undo.proofs.Slots.{turned_fits}
+use Rattle.teco_undo.specs.Listing.{spare_after}
+use Rattle.teco_undo.proofs.Rooms.{first_apart, has_places}
 use Rattle.teco_undo.proofs.recorder.Recorder.note.Goals as goal
 
-pub returns-clause-goes : goal.returns-clause-goes
-returns-clause-goes c =
-    goes_noted c.args.self.now c.self.inside.editor c.put_small-held.new.self c.self.inside.entry.items c.push.new.self.items c.self.inside.done _ _ (small_turn c.args.small)
-    c.self.view_is c.put_small-held.ensures.editor (search rules) c.requires.fits c.requires.rises
+pub note_apart-requires-clause-apart : goal.note_apart-requires-clause-apart
+note_apart-requires-clause-apart c =
+    let late : 2 ^ 32 ≤ c.self.inside.done = let h = c.if-self-ge4294967296.true in omega arith in
+    let a : c.self.inside.entry.apart ≡ c.args.self.now.apart = ap (λ (r : Recording). r.apart) c.self.view_is in
+    let some = first_apart c.self.inside.done c.args.self.now.spare c.self.inside.entry (ap (λ (r : Recording). r.spare) c.self.view_is) c.requires.spare late in
+    omega arith
 
-pub push-requires-clause-spare : goal.push-requires-clause-spare
-push-requires-clause-spare c = first_place c.self.inside.done c.args.self.now.spare c.self.inside.entry (ap (λ (r : Recording). r.spare) c.self.view_is) c.requires.spare
-
-pub push-requires-clause-apart : goal.push-requires-clause-apart
-push-requires-clause-apart c = first_apart c.self.inside.done c.args.self.now.spare c.self.inside.entry (ap (λ (r : Recording). r.spare) c.self.view_is) c.requires.spare
-
-pub push-requires-clause-fits : goal.push-requires-clause-fits
-push-requires-clause-fits c =
-    let e = c.self.inside.editor in
-    let fits = subst (λ (x : Full). FitsFull (small_turn c.args.small) x) (sym (ap (λ (r : Recording). r.full) c.self.view_is)) c.requires.fits in
-    turned_fits e.room (length e.stored) c.args.small c.put_small-held.result e.body c.requires.here c.shown-shown.ensures.sound fits c.put_small-held.ensures.small
-
-pub returns-clause-spare : goal.returns-clause-spare
-returns-clause-spare c =
-    one_less_seen c.self.inside.done c.args.self.now.spare c.self.inside.entry c.push.new.self (ap (λ (r : Recording). r.spare) c.self.view_is) c.push.ensures.spare c.push.ensures.late
-
-pub returns-clause-apart : goal.returns-clause-apart
-returns-clause-apart c =
-    places_left c.self.inside.done c.args.self.now.apart c.self.inside.entry c.push.new.self (ap (λ (r : Recording). r.apart) c.self.view_is) c.push.ensures.apart
+pub returns-then-self-ge4294967296-clause-apart : goal.returns-then-self-ge4294967296-clause-apart
+returns-then-self-ge4294967296-clause-apart c = λ k room le.
+    let late : 2 ^ 32 ≤ c.self.inside.done = let h = c.if-self-ge4294967296.true in omega arith in
+    let s : spare_after c.self.inside.done c.self.inside.entry ≡ c.args.self.now.spare = ap (λ (r : Recording). r.spare) c.self.view_is in
+    let a : c.self.inside.entry.apart ≡ c.args.self.now.apart = ap (λ (r : Recording). r.apart) c.self.view_is in
+    let places = (has_places c.self.inside.done c.args.self.now.spare c.self.inside.entry (omega arith)).1 late in
+    let spare = c.note_apart.ensures.spare in
+    let apart = c.note_apart.ensures.apart in
+    omega arith

@@ -2,10 +2,11 @@ use Rattle.std.proofs.Common.{ap, arith, ◌≡◌}
 use Rattle.teco_undo.specs.Follows.{Recording}
 use Rattle.teco_undo.specs.Listing.{spare_after}
 use Rattle.teco_undo.proofs.Rooms.{has_places, room_found}
-use Rattle.teco_undo.proofs.recorder.Recorder.reserve.Goals as goal
+use Rattle.teco_undo.proofs.recorder.Recorder.reserve_early.Goals as goal
 
 pub returns-clause-spare : goal.returns-clause-spare
 returns-clause-spare c =
+    let d : c.self.inside.done ≡ c.args.self.now.done = ap (λ (r : Recording). r.done) c.self.view_is in
     room_found c.reserve.result c.self.inside.done c.args.changes c.args.apart c.reserve.new.self (λ late. absurd (omega arith)) c.reserve.ensures.spare
     c.reserve.ensures.apart
 
