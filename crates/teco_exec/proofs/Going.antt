@@ -110,6 +110,19 @@ module _ (o : Origin) (h : Host) (next : Continuation) (g : RunGoesOn o h next) 
       let none : 0 ≡ limit - h.steps = omega arith in
       ends_here limit (Some Lim) refl (omega arith) (subst (λ k. ready_run k (next (now_at o h.steps)) ≡ ended_at k (now_at o h.steps) (Some Lim)) none (e (now_at o h.steps)))
 
+  -- no step is left, once one was begun that changed nothing
+  pub limit_ends_unchanged : (limit : ℕ) → h.steps ≡ limit → ((now : Now) → ready_run 0 (next now) ≡ ended_at 0 now (Some Lim)) → (new : State) → new ≡ h.state → (G : Trail → Type 0) → ((u : Trail) → h.follows u → G u)
+      → (w : Screen) → Shows h.screen w [] false → ReachesEnd limit o h (host_of new G w h.steps) (Some Lim)
+  limit_ends_unchanged limit same e new is G keeps w shows =
+      let r = limit_ends limit same e in
+      record {
+        typed = r.typed;
+        runs = subst (λ s. Runs o.state o.text limit (ended_by (Some Lim) h.steps) r.typed s) (sym is) r.runs;
+        shows = subst (λ bytes. Shows o.screen w bytes false) (append-nil r.typed) (shows_on r.shows shows);
+        again = is ∙ r.again;
+        follows = λ floor p. keeps _ (r.follows floor p);
+      }
+
   -- what uses no step
   pub continues : (further : Continuation) → Settles next (goes further) → ReachesContinuation o h h further
   continues further e = record {

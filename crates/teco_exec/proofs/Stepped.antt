@@ -37,7 +37,7 @@ use Rattle.teco_exec.specs.Running.{Origin, Host, Continuation, RunGoesOn, Reach
 use Rattle.teco_exec.specs.declared.flow.Flow.{Flow}
 use Rattle.teco_exec.specs.declared.flow.Flow.TheVariants.{On, Call, Return, Over, Fail, Stop}
 use Rattle.teco_exec.specs.declared.moves.BlockStep.{BlockStep}
-use Rattle.teco_exec.proofs.Going.{alike, also, host_of, limit_ends, EndsByItself, Pays, advanced, since, settles, step_done, no_memory, no_terminal, shows_nothing}
+use Rattle.teco_exec.proofs.Going.{alike, also, host_of, limit_ends, limit_ends_unchanged, EndsByItself, Pays, advanced, since, settles, step_done, no_memory, no_terminal, shows_nothing}
 use Rattle.teco_exec.proofs.MachineMeans.{going_now, resumed_now, Stays, arrives_stays, halted, halts_nowhere, run_ready}
 use Rattle.teco_exec.specs.declared.flow.Progress.{Progress}
 use Rattle.teco_exec.specs.declared.flow.Progress.TheVariants.{Further, Done}
@@ -147,6 +147,13 @@ module _ (c : Cursor) (token : Token) (work : Option Work) (callers : List Calle
           subst (λ k. ReachesEnd limit o h (host_of new G w h.steps) (Some k)) same
           (no_terminal o h (at_token c token work callers) g (after_token d.arguments d.end) d.state d.typed d.load (token_pays h.state) (after_stays d.arguments d.end) limit lt new lacks.state G (took_so true (ap is_unfinished e ∙ unfinished)) w lacks.front lacks.types lacks.beginning lacks.shows)
 
+      -- it was begun and given up
+      pub token_given_up : (code : Code) → n ≡ next.Error code → code ≡ Mem → Steps (effect_in h.state) name (at h.state (arguments c.args) h.screen) (at new (arguments args) w) n → ReachesEnd h.steps o h (host_of new G w h.steps) (Some Lim)
+      token_given_up code e memory (inl done) = let x : true ≡ false = sym (ap is_unfinished (e ∙ ap next.Error memory)) ∙ done.finished in absurd cc
+      token_given_up code e memory (inr (inl lacks)) =
+          limit_ends_unchanged o h (at_token c token work callers) g h.steps refl (λ now. refl) new lacks.state G (took_so true (ap is_unfinished (e ∙ ap next.Error memory))) w lacks.shows
+      token_given_up code e memory (inr (inr lacks)) = let both : next.Error Tty ≡ next.Error Mem = sym lacks.code ∙ e ∙ ap next.Error memory in absurd cc
+
       finished_done : is_unfinished n ≡ false → Steps (effect_in h.state) name (at h.state (arguments c.args) h.screen) (at new (arguments args) w) n → IsDone (effect_in h.state) name (at h.state (arguments c.args) h.screen) (at new (arguments args) w) n
       finished_done f (inl done) = done
       finished_done f (inr (inl lacks)) = let x : true ≡ false = sym (ap is_unfinished lacks.code) ∙ f in absurd cc
@@ -238,6 +245,10 @@ counts_so so x = record { limit = x.limit; more = x.more; heard = x.heard; stays
 -- The stop is not asked.
 pub says_on : {said : Answers} → StillSays said said
 says_on = record { span = refl; said = λ k is h. h }
+
+-- It is asked a second time.
+pub says_then : {p q r : Answers} → StillSays p q → StillSays q r → StillSays p r
+says_then x y = record { span = y.span ∙ x.span; said = λ k is h. y.said k is (x.said k is h) }
 
 -- Nothing is counted; a step is counted; and the run is over, since no step is left or it is asked to stop.
 pub counts_none : {p q : Answers} {P : Type 0} {a : StepCount} → StillSays p q → CountsSteps p q P a a

@@ -29,4 +29,5 @@ pub use place::{Call, Place};
 pub use running::{run, run_with};
 pub use seeking::{Seeking, UntilFound, Wants};
 pub use stop::{Never, Stop};
+pub use teco_search::Patience;
 pub use watch::{Unwatched, Watch, Watched};

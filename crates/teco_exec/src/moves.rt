@@ -259,8 +259,9 @@ impl<'t> Cursor<'t> {
         ensures moves { Ok (cursor self.new)
             ≡ machine.after_block_step machine.ends_turn (drop to self.old.text.now) (cursor self.old) }
     {
+        let next = self.blocks.next_turn();
         self.args.clear();
-        match self.blocks.next_turn() {
+        match next {
             Some(start) => self.at = start,
             None => {
                 self.blocks.pop();

@@ -36,7 +36,8 @@ pub fn run<D: Desk, T: Terminal>(desk: &mut D, text: &[u8], limit: u64, term: &m
 }
 
 /// Runs a command string as [`run`] does, by these options. Before each step that counts, and before one that would be past the limit,
-/// it asks whether it is to stop. Asked so, it ends as under a limit of just the steps that are done.
+/// it asks whether it is to stop. After a step that lacked memory it asks too, since a search may have been given up. Asked so, it ends as
+/// under a limit of just the steps that are done.
 ///
 /// The watch is told where the run last stood. Where it stops before a step, for want of steps or memory or because the terminal
 /// failed, that is the token whose step comes. Where it stops at a fault of a text, which uses no step, it is the fault. Where a step

@@ -10,6 +10,7 @@ use crate::watch::Watch;
 use std::cell::Cell;
 use teco_core::Reg;
 use teco_scan::filler_end;
+use teco_search::Patience;
 
 /// Which places of a run are wanted.
 pub trait Wants {
@@ -94,6 +95,13 @@ impl<'a> UntilFound<'a> {
     }
 }
 
+impl<'a> Patience for UntilFound<'a> {
+    #[inline(always)]
+    fn has_ended(&self) -> bool {
+        false
+    }
+}
+
 impl<'a> Stop for UntilFound<'a> {
     ghost use Rattle.teco_exec.specs.Runs.{Answers};
 
@@ -101,6 +109,11 @@ impl<'a> Stop for UntilFound<'a> {
 
     #[inline(always)]
     fn asks(&mut self, _done: u64) -> bool {
+        self.has_found.get()
+    }
+
+    #[inline(always)]
+    fn asks_now(&mut self, _done: u64) -> bool {
         self.has_found.get()
     }
 }

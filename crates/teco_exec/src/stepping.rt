@@ -1,6 +1,6 @@
 //! One step of what was found in a text.
 ghost use Rattle.std.specs.Prelude.{◌≡◌, ◌+◌, ◌<◌, ◌≤◌, ℕ, List, None, Some, MatchOption, MatchResult, drop, false, length, true};
-ghost use Rattle.teco_core.specs.declared.code.Code.TheVariants.{Lim};
+ghost use Rattle.teco_core.specs.declared.code.Code.TheVariants.{Lim, Mem};
 ghost use Rattle.teco_scan.specs.Scan.{scan};
 ghost use Rattle.teco_scan.specs.Seen.{IsFoundAt, IsSpanIn, bytes_in, found_in};
 ghost use Rattle.teco_store.specs.State.{State};
@@ -11,6 +11,7 @@ ghost use Rattle.teco_step.specs.declared.next.Next.TheVariants.{Call, Error};
 ghost use Rattle.teco_exec.specs.CursorMoves.{inside_iteration, leave_is_next};
 ghost use Rattle.teco_exec.specs.Machine.{Caller, Now, after_step_end, ready_of};
 ghost use Rattle.teco_exec.specs.Running.{Comes, FlowStays, GoesOn, GoesQuietly, HasStoodBefore, OnCall, OnLast, RunLeads, at_block_step, at_token, config, itself, reached_by_flow};
+ghost use Rattle.teco_exec.specs.Runs.{StillSays};
 ghost use Rattle.teco_exec.specs.TextStep.{StepsText};
 ghost use Rattle.teco_exec.specs.Tokens.{Continues, CountsSteps, OnDone, ProgressFinishes, ProgressStays, ProgressesQuietly, call_of, calls_text, looks_around, reached_by_progress};
 ghost use Rattle.teco_exec.specs.Quiet.{IsQuiet, is_plain};
@@ -141,8 +142,20 @@ fn token_step<D: Desk, S: Stop, T: Terminal>(
         inside,
         before,
     };
-    let next = step_token(desk, cursor.text, token, context, &mut cursor.args, term);
-    if let Some(code) = unfinished(&next) {
+    let next = step_token(
+        desk,
+        cursor.text,
+        token,
+        context,
+        &mut cursor.args,
+        term,
+        &*stop,
+    );
+    if let Some(mut code) = unfinished(&next) {
+        if is_given_up(code, steps.done, stop) {
+            steps.limit = steps.done;
+            code = Code::Lim;
+        }
         return Progress::Done(Flow::Stop(code));
     }
     steps.count();
@@ -271,6 +284,17 @@ fn unfinished(next: &Next) -> Option<Code>
         Next::Error(Code::Tty) => Some(Code::Tty),
         _ => None,
     }
+}
+
+/// Whether a step that was begun and not done was given up, since the run is to stop. Then the string ends before it, as if that had been
+/// seen there. Else it ends by its code.
+#[cold]
+fn is_given_up<S: Stop>(code: Code, done: u64, stop: &mut S) -> bool
+    ensures memory { result ≡ true → code ≡ Mem }
+    ensures asked { result ≡ true → (S.answered stop.new).said done true }
+    ensures still { StillSays (S.answered stop.old) (S.answered stop.new) }
+{
+    code == Code::Mem && stop.asks_now(done)
 }
 
 /// A step has failed by this code.

@@ -116,6 +116,7 @@ fn insert_number<D: Desk>(desk: &mut D, args: &mut Args) -> Result<Next, Failure
 }
 
 /// `\` inserts a number where the level has one, and else reads the one at the pointer.
+#[inline(never)]
 pub(crate) fn decimal<D: Desk>(desk: &mut D, args: &mut Args) -> Result<Next, Failure>
     ensures { Acts D.Desk (goes decimal.decimal) (desk.old, args.old) (desk.new, args.new) result }
 {

@@ -8,6 +8,7 @@ ghost use Rattle.teco_step.specs.declared.failure.Failure.TheVariants as failure
 use crate::next::Next;
 use std::alloc::AllocError;
 use teco_core::{Args, Code};
+use teco_search::GivenUp;
 use teco_store::Refused;
 
 /// Why a step was not done.
@@ -44,6 +45,15 @@ impl From<AllocError> for Failure {
     ghost from_gives = { λ _ result. result ≡ failure.Memory };
 
     fn from(_: AllocError) -> Self {
+        Failure::Memory
+    }
+}
+
+/// A search that gave up is not done, as one that was refused memory. Who runs the step asks once more whether the run is over.
+impl From<GivenUp> for Failure {
+    ghost from_gives = { λ _ result. result ≡ failure.Memory };
+
+    fn from(_: GivenUp) -> Self {
         Failure::Memory
     }
 }

@@ -11,7 +11,7 @@ use crate::next::{Next, Setting, Work};
 use crate::searching::{fail, note, sought};
 use crate::taking::{takes_one_or, text_length};
 use teco_core::{Args, Code};
-use teco_search::find_forward;
+use teco_search::{Patience, find_forward};
 use teco_store::Desk;
 
 /// How many occurrences are asked for: those that an earlier step left, or the number that the search takes.
@@ -58,18 +58,20 @@ fn run_out<D: Desk>(
 }
 
 /// Searches the page in the buffer from the pointer.
-fn search_page<D: Desk>(
+fn search_page<D: Desk, P: Patience>(
     desk: &mut D,
     text: &[u8],
     setting: Setting,
     args: &mut Args,
+    patience: &P,
 ) -> Result<Next, Failure>
     ensures { Acts D.Desk (steers (paging.search_page text.now setting))
         (desk.old, args.old) (desk.new, args.new) result }
 {
     let n = wanted(setting.work, args)?;
     let pattern = sought(desk, text)?;
-    match find_forward(&pattern, desk.halves(), desk.pointer(), n) {
+    let told = find_forward(&pattern, desk.halves(), desk.pointer(), n, patience)?;
+    match told {
         Ok((_, end)) => {
             let asked = setting.modifiers.colons == 1;
             note(desk, text, true, end, asked, Next::On, args)
@@ -96,18 +98,19 @@ fn go_on<D: Desk>(desk: &mut D, quietly: bool, left: i32, args: &mut Args) -> Re
 
 /// `nN` looks for the nth occurrence in the buffer and the pages after it. A page that has too few is written, and the next one replaces it.
 /// `n_` reads the next page without writing. The buffer must be empty where it does.
-pub fn search_pages<D: Desk>(
+pub fn search_pages<D: Desk, P: Patience>(
     desk: &mut D,
     text: &[u8],
     quietly: bool,
     setting: Setting,
     args: &mut Args,
+    patience: &P,
 ) -> Result<Next, Failure>
     ensures { Acts D.Desk (steers (paging.search_pages (paging.next_in quietly) text.now setting))
         (desk.old, args.old) (desk.new, args.new) result }
 {
     match setting.work {
         Some(work) if !work.search => go_on(desk, quietly, work.left, args),
-        _ => search_page(desk, text, setting, args),
+        _ => search_page(desk, text, setting, args, patience),
     }
 }

@@ -25,6 +25,7 @@ pub fn next_page<D: Desk>(desk: &mut D, args: &mut Args) -> Result<Next, Failure
 }
 
 /// `A`: the next page comes after the text of the buffer, and the pointer stays. With no input left nothing changes.
+#[inline(never)]
 pub(crate) fn append_page<D: Desk>(desk: &mut D, args: &mut Args) -> Result<Next, Failure>
     ensures { Acts D.Desk (goes pages.append_page) (desk.old, args.old) (desk.new, args.new) result }
 {

@@ -16,7 +16,7 @@ use crate::next::{Next, Setting};
 use crate::registers::give_alone;
 use crate::taking::{takes_none, takes_one_or, truth};
 use teco_core::{Args, Code};
-use teco_search::{Pattern, find, find_plain, is_plain, matches_at};
+use teco_search::{Patience, Pattern, find, find_plain, is_plain, matches_at};
 use teco_store::Desk;
 
 /// The text that a search means: an empty one means the last one.
@@ -69,9 +69,14 @@ fn takes_count(args: &Args) -> Result<i32, Failure>
     Ok(n)
 }
 
-/// Where the nth occurrence of a text from the pointer begins and ends, if there is one. The first one of a plain text is looked for as it
-/// stands, which takes no memory.
-fn found<D: Desk>(desk: &D, text: &[u8], args: &Args) -> Result<Option<(usize, usize)>, Failure>
+/// Where the nth occurrence of a text from the pointer begins and ends, if there is one. Forward a plain text is looked for as it stands,
+/// which takes no memory.
+fn found<D: Desk, P: Patience>(
+    desk: &D,
+    text: &[u8],
+    args: &Args,
+    patience: &P,
+) -> Result<Option<(usize, usize)>, Failure>
     ensures ok { IfOk result (λ m. searching.found text.now (D.state desk.now) (arguments args.now) ≡ Ok m) }
     ensures err { IfErr result (λ failure. IsRefusal failure
         (searching.found text.now (D.state desk.now) (arguments args.now)) ⊎ (failure ≡ Memory)) }
@@ -80,11 +85,14 @@ fn found<D: Desk>(desk: &D, text: &[u8], args: &Args) -> Result<Option<(usize, u
 {
     let n = takes_count(args)?;
     let meant = meant(desk, text);
-    if n == 1 && is_plain(meant, desk.case_mode()) {
-        return Ok(find_plain(meant, desk.halves(), desk.pointer()));
+    if n > 0 && is_plain(meant) {
+        let mode = desk.case_mode();
+        let place = find_plain(meant, mode, desk.halves(), desk.pointer(), n, patience)?;
+        return Ok(place);
     }
     let pattern = sought_by(desk, meant)?;
-    Ok(find(&pattern, desk.halves(), desk.pointer(), n))
+    let found = find(&pattern, desk.halves(), desk.pointer(), n, patience)?;
+    Ok(found)
 }
 
 /// The text that a search notes: an empty one leaves the last one.
@@ -152,16 +160,17 @@ pub(crate) fn fail<D: Desk>(
 }
 
 /// `nS` looks for the nth occurrence of the text, and puts the pointer after it.
-fn search<D: Desk>(
+fn search<D: Desk, P: Patience>(
     desk: &mut D,
     text: &[u8],
     setting: Setting,
     args: &mut Args,
+    patience: &P,
 ) -> Result<Next, Failure>
     ensures { Acts D.Desk (steers (searching.search text.now setting))
         (desk.old, args.old) (desk.new, args.new) result }
 {
-    let Some((_, end)) = found(desk, text, args)? else {
+    let Some((_, end)) = found(desk, text, args, patience)? else {
         return fail(desk, text, setting, args);
     };
     let asked = setting.modifiers.colons == 1;
@@ -195,11 +204,12 @@ fn compare<D: Desk>(desk: &mut D, text: &[u8], args: &mut Args) -> Result<Next, 
 }
 
 /// `S`, and `::S`.
-pub fn search_or_compare<D: Desk>(
+pub fn search_or_compare<D: Desk, P: Patience>(
     desk: &mut D,
     text: &[u8],
     setting: Setting,
     args: &mut Args,
+    patience: &P,
 ) -> Result<Next, Failure>
     ensures { Acts D.Desk (steers (searching.search_or_compare text.now setting))
         (desk.old, args.old) (desk.new, args.new) result }
@@ -207,21 +217,22 @@ pub fn search_or_compare<D: Desk>(
     if setting.modifiers.colons == 2 {
         return compare(desk, text, args);
     }
-    search(desk, text, setting, args)
+    search(desk, text, setting, args, patience)
 }
 
 /// `nFS` looks for the nth occurrence of the text, and puts the bytes in its place.
-pub fn search_and_replace<D: Desk>(
+pub fn search_and_replace<D: Desk, P: Patience>(
     desk: &mut D,
     text: &[u8],
     bytes: &[u8],
     setting: Setting,
     args: &mut Args,
+    patience: &P,
 ) -> Result<Next, Failure>
     ensures { Acts D.Desk (steers (searching.search_and_replace text.now bytes.now setting))
         (desk.old, args.old) (desk.new, args.new) result }
 {
-    let Some((start, end)) = found(desk, text, args)? else {
+    let Some((start, end)) = found(desk, text, args, patience)? else {
         return fail(desk, text, setting, args);
     };
     desk.note_replace(noted_text(text), start, end - start, bytes)?;

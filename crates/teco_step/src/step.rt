@@ -19,6 +19,7 @@ use crate::{
 use teco_core::{Args, Code, Reg};
 use teco_io::Terminal;
 use teco_scan::{Bare, Command, Item, RegisterCommand, Span, TextCommand, Token, TokenKind};
+use teco_search::Patience;
 use teco_store::Desk;
 
 /// A step of a command without an operand.
@@ -103,13 +104,14 @@ fn register_step<D: Desk, T: Terminal>(
 
 /// A step of a command with one text.
 #[inline(always)]
-fn text_step<D: Desk, T: Terminal>(
+fn text_step<D: Desk, T: Terminal, P: Patience>(
     desk: &mut D,
     command: TextCommand,
     text: &[u8],
     setting: Setting,
     args: &mut Args,
     term: &mut T,
+    patience: &P,
 ) -> Result<Next, Failure>
     ensures { Does D.Desk T.Terminal (text_effect command text.now setting)
         (desk.old, args.old, term.old) (desk.new, args.new, term.new) result }
@@ -119,10 +121,12 @@ fn text_step<D: Desk, T: Terminal>(
         TextCommand::Go => control::jump_to(desk, text, args),
         TextCommand::InsertTab => edit::insert_tab(desk, text, args),
         TextCommand::TypeOut => typing::type_text(desk, text, args, term),
-        TextCommand::Search => searching::search_or_compare(desk, text, setting, args),
-        TextCommand::SearchPages => page_searching::search_pages(desk, text, false, setting, args),
+        TextCommand::Search => searching::search_or_compare(desk, text, setting, args, patience),
+        TextCommand::SearchPages => page_searching::search_pages(
+            desk, text, false, setting, args, patience,
+        ),
         TextCommand::SearchPagesQuietly => page_searching::search_pages(
-            desk, text, true, setting, args,
+            desk, text, true, setting, args, patience,
         ),
     }
 }
@@ -137,13 +141,14 @@ fn bytes_of(text: &[u8], span: Span) -> &[u8]
 
 /// A step of a command, with its operands in the text.
 #[inline(always)]
-fn item_step<D: Desk, T: Terminal>(
+fn item_step<D: Desk, T: Terminal, P: Patience>(
     desk: &mut D,
     text: &[u8],
     item: Item,
     setting: Setting,
     args: &mut Args,
     term: &mut T,
+    patience: &P,
 ) -> Result<Next, Failure>
     requires { IsItemIn (length text.now) item }
     ensures does { Does D.Desk T.Terminal (item_effect (item_in text.now item) setting)
@@ -155,28 +160,38 @@ fn item_step<D: Desk, T: Terminal>(
         Item::Bare(bare) => bare_step(desk, bare, setting, args, term),
         Item::Register(command, q) => register_step(desk, command, q, setting, args, term),
         Item::Text(command, span) => {
-            text_step(desk, command, bytes_of(text, span), setting, args, term)
+            text_step(
+                desk,
+                command,
+                bytes_of(text, span),
+                setting,
+                args,
+                term,
+                patience,
+            )
         }
         Item::SetText(q, span) => registers::set_text(desk, q, bytes_of(text, span), args),
         Item::Byte(code) => value::byte(desk, code, args),
         Item::Replace(old, new) => {
             let (old, new) = (bytes_of(text, old), bytes_of(text, new));
-            searching::search_and_replace(desk, old, new, setting, args)
+            searching::search_and_replace(desk, old, new, setting, args, patience)
         }
     }
 }
 
 /// One step of a token of the text: its first, or a further one where the context has work left.
 ///
-/// The step does what it means; or it ends by [`Code::Mem`] or [`Code::Tty`], and then the state and the arguments are unchanged.
+/// The step does what it means; or it ends by [`Code::Mem`] or [`Code::Tty`], and then the state and the arguments are unchanged. A search
+/// that gives up, since patience has ended, ends by [`Code::Mem`].
 #[inline(always)]
-pub fn step_token<D: Desk, T: Terminal>(
+pub fn step_token<D: Desk, T: Terminal, P: Patience>(
     desk: &mut D,
     text: &[u8],
     token: &Token,
     context: Context,
     args: &mut Args,
     term: &mut T,
+    patience: &P,
 ) -> Next
     requires { IsStepIn text.now token.now }
     ensures steps { Steps (token_effect text.now token.now context (D.state desk.old) (arguments args.old))
@@ -194,7 +209,9 @@ pub fn step_token<D: Desk, T: Terminal>(
         before: context.before,
     };
     match token.kind {
-        TokenKind::Item(item) => { next_of(item_step(desk, text, item, setting, args, term)) }
+        TokenKind::Item(item) => {
+            next_of(item_step(desk, text, item, setting, args, term, patience))
+        }
         TokenKind::Mark(_) | TokenKind::Test(_) | TokenKind::Tag(_) | TokenKind::Escape => {
             Next::Error(Code::Ill)
         }

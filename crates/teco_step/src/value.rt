@@ -68,6 +68,7 @@ pub fn byte<D: Desk>(desk: &D, byte: u8, args: &mut Args) -> Result<Next, Failur
 }
 
 /// Builds the arguments, where the text has this length.
+#[inline(always)]
 fn build(arithmetic: Arithmetic, length: usize, args: &mut Args) -> Result<(), Code>
     requires { length < 2 ^ 31 }
     ensures ok { OnOk result (values.built arithmetic length (arguments args.old) ≡ Ok (arguments args.new)) }
@@ -98,6 +99,7 @@ pub fn arithmetic<D: Desk>(
 }
 
 /// The code of the byte at a place of a text in two halves, or -1 where none is.
+#[inline(always)]
 fn code_in(before: &[u8], after: &[u8], place: usize) -> i32
     ensures { result ≡ values.code_at (before.now ++ after.now) (pos place) }
 {
@@ -109,6 +111,7 @@ fn code_in(before: &[u8], after: &[u8], place: usize) -> i32
 }
 
 /// The code of the byte at a place, or -1 where none is.
+#[inline(always)]
 fn code_at<D: Desk>(desk: &D, place: i64) -> i32
     ensures { result ≡ values.code_at (D.state desk.now).text place }
 {
@@ -120,6 +123,7 @@ fn code_at<D: Desk>(desk: &D, place: i64) -> i32
 }
 
 /// Gives the code of the character `n` after the pointer, in place of what the level has.
+#[inline(always)]
 fn give_code<D: Desk>(desk: &D, n: i32, args: &mut Args) -> Result<Next, Failure>
     ensures does { Acts D.Desk (goes (values.gives_code n)) (desk.now, args.old) (desk.now, args.new) result }
     ensures no_memory { result ≡ Err Memory → ⊥ }
@@ -130,6 +134,7 @@ fn give_code<D: Desk>(desk: &D, n: i32, args: &mut Args) -> Result<Next, Failure
 }
 
 /// `nA` gives the code of a character. `A` without n reads a page.
+#[inline]
 fn append<D: Desk>(desk: &mut D, args: &mut Args) -> Result<Next, Failure>
     ensures { Acts D.Desk (goes values.append) (desk.old, args.old) (desk.new, args.new) result }
 {
@@ -142,6 +147,7 @@ fn append<D: Desk>(desk: &mut D, args: &mut Args) -> Result<Next, Failure>
 }
 
 /// A value or a command, by what the level has.
+#[inline]
 pub fn at_level<D: Desk>(
     desk: &mut D,
     command: LevelCommand,

@@ -1,4 +1,4 @@
-use Rattle.std.proofs.Common.{◌∙◌, ◌++◌, ◌-ℤ◌, ap, length, pos, refl, rules, sym, true, FitsSigned, w32}
+use Rattle.std.proofs.Common.{◌∙◌, ◌++◌, ◌-ℤ◌, ap, inr, length, pos, refl, rules, sym, true, FitsSigned, w32}
 use Rattle.std.proofs.lemmas.Int.{to_z-of_z}
 use mir.Val.{of_z, to_z}
 use Rattle.teco_search.specs.Occurrence.{forward, occurrence}
@@ -22,6 +22,12 @@ returns-in_err-pattern g c =
     let a = arguments c.args.args.now in
     acts_undone (steers (search_page c.args.text.now c.args.setting)) s s a _ _ _ c.from_residual-in_err-pattern.result c.from_residual-in_err-pattern.ensures.1 (why_after _ _ c.in_ok-n.n _ c.in_ok-n.ensures.value (why_then _ _ _ c.in_err-pattern.ensures.err)) refl (λ t b. b)
 
+pub returns-in_err-told : goal.returns-in_err-told
+returns-in_err-told g c =
+    let s = g.D.Desk.state c.args.desk.now in
+    let a = arguments c.args.args.now in
+    acts_undone (steers (search_page c.args.text.now c.args.setting)) s s a _ _ _ c.from_residual-in_err-told.result c.from_residual-in_err-told.ensures.1 (inr refl) refl (λ t b. b)
+
 pub returns-in-Ok : goal.returns-in-Ok
 returns-in-Ok g c =
     let s = g.D.Desk.state c.args.desk.now in
@@ -31,7 +37,8 @@ returns-in-Ok g c =
     let q = c.in_ok-pattern.pattern in
     let n = c.in_ok-n.n in
     let fits : FitsSigned w32 n = search rules in
-    let found = c.in-Ok.ensures.value ∙ ap (λ t. occurrence q t c.pointer.result (to_z w32 (of_z w32 n))) c.halves.ensures.joined
+    let told = rw c.in-Ok.is at c.in_ok-told.ensures.value in
+    let found = told ∙ ap (λ t. occurrence q t c.pointer.result (to_z w32 (of_z w32 n))) c.halves.ensures.joined
     ∙ ap (λ p. occurrence q s.text p (to_z w32 (of_z w32 n))) c.pointer.ensures.value ∙ ap (occurrence q s.text s.pointer) (to_z-of_z w32 n fits) in
     acts_as (steers (search_page text w)) (steers (λ s x. notes text true c.in-Ok.end (answers w true) on s)) s _ a _ _ _ c.note.result
     (then_ok _ n _ _ c.in_ok-n.ensures.value (then_ok _ q _ _ c.in_ok-pattern.ensures.ok (ap (λ o. page_searched text w n q o s a) (sym found)))) c.note.ensures
@@ -47,9 +54,11 @@ returns g c =
     let fits : FitsSigned w32 n = search rules in
     let fits_left : FitsSigned w32 c.in-Err.left = search rules in
     let same = to_z-of_z w32 n fits in
-    let none = c.in-Err.ensures.value ∙ ap (λ t. occurrence q t c.pointer.result (to_z w32 (of_z w32 n))) c.halves.ensures.joined
+    let told = rw c.in-Err.is at c.in_ok-told.ensures.value in
+    let wanted = rw c.in-Err.is at c.in_ok-told.ensures.fewer in
+    let none = told ∙ ap (λ t. occurrence q t c.pointer.result (to_z w32 (of_z w32 n))) c.halves.ensures.joined
     ∙ ap (λ p. occurrence q s.text p (to_z w32 (of_z w32 n))) c.pointer.ensures.value ∙ ap (occurrence q s.text s.pointer) same in
-    let still = c.in-Err.ensures.fewer ∙ ap (λ m. m -ℤ pos (length (forward q (c.halves.result.0.now ++ c.halves.result.1.now) c.pointer.result))) same
+    let still = wanted ∙ ap (λ m. m -ℤ pos (length (forward q (c.halves.result.0.now ++ c.halves.result.1.now) c.pointer.result))) same
     ∙ ap (λ t. n -ℤ pos (length (forward q t c.pointer.result))) c.halves.ensures.joined ∙ ap (λ p. n -ℤ pos (length (forward q s.text p))) c.pointer.ensures.value in
     acts_as (steers (search_page text w)) (steers (runs_out text w (to_z w32 (of_z w32 c.in-Err.left)))) s _ a _ _ _ c.run_out.result
     (then_ok _ n _ _ c.in_ok-n.ensures.value (then_ok _ q _ _ c.in_ok-pattern.ensures.ok
