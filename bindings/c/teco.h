@@ -161,7 +161,7 @@ struct teco_call {
  */
 struct teco_run {
     uint64_t limit;              /* the most steps that the string may take; with 0 none is done */
-    struct teco_stopper stopper; /* asked before each step; all zero, or closed, it asks for no stop */
+    struct teco_stopper stopper; /* asked before each step and within a long search; all zero, or closed, it asks for no stop */
     uint8_t *room;               /* what the string types goes here, from the front on; */
     size_t room_size;            /* there is room for so many bytes */
     struct teco_call *frames;    /* the calls that are open where it stopped go here, the latest first; */

@@ -23,8 +23,8 @@ impl Stopper {
         (answer == 0).then_some((here, there))
     }
 
-    /// Asks to stop: a string that runs with the other handle is broken off before its next step. It stays asked until it is taken back, so
-    /// a string that begins meanwhile is broken off before its first step.
+    /// Asks to stop: a string that runs with the other handle is broken off before its next step or within a long search. It stays asked until
+    /// it is taken back, so a string that begins meanwhile is broken off before its first step.
     pub fn ask(&self) {
         unsafe { raw::teco_stop(&self.handle, 1) };
     }

@@ -5,7 +5,7 @@ use Rattle.std.proofs.lemmas.Option.{none-some}
 use Rattle.teco_core.specs.Register.{blank}
 use Rattle.teco_store.specs.State.{StateOver, Body, Full, state_at}
 use Rattle.teco_store.specs.Trail.{Trail}
-use Rattle.teco_store.specs.Turn.{Turn, Note, Splice, Lend, Point, Number, Text, Push, TakeOff, PopInto, PutBack, Pages, Search, Found, Done, Mode, body_after}
+use Rattle.teco_store.specs.Turn.{Turn, Note, Splice, Lend, PutIn, TakeOut, Point, Number, Text, Push, TakeOff, PopInto, PutBack, Pages, Search, Found, Done, Mode, body_after}
 use Rattle.teco_store.specs.Kinds.{kind_of}
 use Rattle.teco_undo.specs.Entry.{body_back, since}
 use Rattle.teco_undo.specs.Follows.{AreMarked, HasCome}
@@ -38,6 +38,8 @@ other_register step q r e same = none-some step (sym e ∙ ap (λ b. if b then S
 other_turn : (part : Part) (step : ℕ) (t : Turn) (b : Body) → (if is_for part (kind_of t) then Some step else None) ≡ None → SamePart part (body_after t b) b
 other_turn Buffer step (Splice at there pointer held) b e = absurd (none-some step (sym e))
 other_turn Buffer step (Lend from count there_from there pointer) b e = absurd (none-some step (sym e))
+other_turn Buffer step (PutIn held pointer) b e = absurd (none-some step (sym e))
+other_turn Buffer step (TakeOut held pointer) b e = absurd (none-some step (sym e))
 other_turn Buffer step (Point pointer) b e = refl
 other_turn Buffer step (Number q n) b e = refl
 other_turn Buffer step (Text q held) b e = refl
@@ -52,6 +54,8 @@ other_turn Buffer step (Done done) b e = refl
 other_turn Buffer step (Mode mode) b e = refl
 other_turn (Register q) step (Splice at there pointer held) b e = refl
 other_turn (Register q) step (Lend from count there_from there pointer) b e = refl
+other_turn (Register q) step (PutIn held pointer) b e = refl
+other_turn (Register q) step (TakeOut held pointer) b e = refl
 other_turn (Register q) step (Point pointer) b e = refl
 other_turn (Register q) step (Number r n) b e = let ne : q ≢ r = other_register step q r e in sym (get_or-set_other b.registers r q _ blank ne)
 other_turn (Register q) step (Text r held) b e = let ne : q ≢ r = other_register step q r e in sym (get_or-set_other b.registers r q _ blank ne)

@@ -5,7 +5,7 @@ use std::alloc::Global;
 use std::sync::Arc;
 use std::sync::atomic::{AtomicBool, Ordering};
 use teco_core::NoMemory;
-use teco_exec::Stop;
+use teco_exec::{Patience, Stop};
 
 /// Whether runs are asked to stop. What the flag holds no contract tells, since another thread may set it at any time.
 #[derive(Drop)]
@@ -40,11 +40,22 @@ pub struct Asking<'a> {
     pub flag: &'a Flag,
 }
 
+impl<'a> Patience for Asking<'a> {
+    fn has_ended(&self) -> bool {
+        self.flag.is_set()
+    }
+}
+
 impl<'a> Stop for Asking<'a> {
     ghost answered = { λ _. flag_answers };
 
     #[inline(always)]
     fn asks(&mut self, _done: u64) -> bool {
+        self.flag.is_set()
+    }
+
+    #[inline(always)]
+    fn asks_now(&mut self, _done: u64) -> bool {
         self.flag.is_set()
     }
 }

@@ -18,7 +18,7 @@ use teco_session::{Answered, Session};
 pub struct Run<'a> {
     /// How many steps the string may take.
     pub limit: u64,
-    /// Who is asked before each step whether it is to stop; a closed one asks for no stop.
+    /// Who is asked before each step, and within a long search, whether it is to stop; a closed one asks for no stop.
     pub stopper: Stopper,
     /// Where the typed bytes go.
     pub room: &'a mut [u8],

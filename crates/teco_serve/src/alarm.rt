@@ -4,7 +4,7 @@ ghost use Rattle.std.specs.declared.time.Instant.{Instant};
 ghost use Rattle.teco_serve.specs.Alarm.{AreApart, clock_answers};
 
 use std::time::{Clock, Instant};
-use teco_exec::Stop;
+use teco_exec::{Patience, Stop};
 
 /// How far a command string may run.
 #[derive(Clone, Copy)]
@@ -49,6 +49,9 @@ pub trait Timer: Drop {
     /// Reads the time. It tells nothing if it can't be read.
     fn read(&mut self) -> Option<Instant>
         ensures { tells self.old self.new result };
+
+    /// Reads the time by a shared reference. What it tells no contract says.
+    fn peek(&self) -> Option<Instant>;
 }
 
 /// The clock of the system. What it tells no contract says.
@@ -61,6 +64,10 @@ impl<'a, C: Clock> Timer for SystemTimer<'a, C> {
     ghost tells = { λ _ _ _. Unit {0} };
 
     fn read(&mut self) -> Option<Instant> {
+        self.peek()
+    }
+
+    fn peek(&self) -> Option<Instant> {
         Instant::now(self.clock).ok()
     }
 }
@@ -73,8 +80,9 @@ const NEAR: u128 = 10;
 
 /// An alarm by a clock.
 ///
-/// It reads the clock when it is set, and then before each 16th step, or more often where steps take long. It asks a string to stop only
-/// after a reading that is so many seconds later than the first one. A clock that can't be read breaks off no string.
+/// It reads the clock when it is set, and then before each 16th step, or more often where steps take long, and also within a long search. It
+/// asks a string to stop only after a reading that is so many seconds later than the first one. A clock that can't be read breaks off no
+/// string.
 #[derive(Drop)]
 pub struct ClockAlarm<M: Timer> {
     timer: M,
@@ -166,12 +174,22 @@ fn are_apart(seconds: u64, first: Option<Instant>, last: Option<Instant>) -> boo
     }
 }
 
+impl<M: Timer> Patience for ClockAlarm<M> {
+    fn has_ended(&self) -> bool {
+        are_apart(self.seconds, self.first, self.timer.peek())
+    }
+}
+
 impl<M: Timer> Stop for ClockAlarm<M> {
     ghost answered = { λ alarm. clock_answers alarm.seconds alarm.first alarm.last };
 
     #[inline(always)]
     fn asks(&mut self, done: u64) -> bool {
         done >= self.next && self.looks(done)
+    }
+
+    fn asks_now(&mut self, done: u64) -> bool {
+        self.looks(done)
     }
 }
 
