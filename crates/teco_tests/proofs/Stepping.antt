@@ -1,9 +1,9 @@
 -- A recorder that ends a step goes on with some trail.
-use Rattle.std.specs.Prelude.{◌≡◌, ℕ, ◌+◌, ◌≤◌, nat_lt, if◌then◌else◌}
-use Rattle.std.proofs.Common.{refl, sym, subst, ◌∙◌, arith}
+use Rattle.std.specs.Prelude.{◌≡◌, ℕ, ◌+◌, ◌≤◌, nat_lt, if◌then◌else◌, OnOk, OnErr}
+use Rattle.std.proofs.Common.{refl, sym, subst, ◌∙◌, arith, Result, Ok, Err}
 use Rattle.std.proofs.lemmas.Bool.{le-ltb, lt-ltb}
 use Rattle.teco_store.specs.State.{State, state_of}
-use Rattle.teco_store.specs.Trail.{Trail, most_changes, stepped}
+use Rattle.teco_store.specs.Trail.{Trail, most_changes, moved, stepped}
 use Rattle.teco_undo.specs.Follows.{Recording, Follows}
 use Rattle.teco_tests.specs.Steps.{HasDone}
 
@@ -46,6 +46,16 @@ follows_retold r t s f = record {
 -- A bound on the changes may be larger.
 pub few_more : (r : Recording) (n : ℕ) → HasDone n 0 r → HasDone n most_changes r
 few_more r n d = record { trail = d.trail; follows = d.follows; count = d.count; few = let f = d.few in omega arith }
+
+-- A call makes at most as many changes as a step may, or none.
+pub may_move : {T E : Type 0} (x : Result T E) (r s : Recording) (n load : ℕ)
+    → OnOk x ((t : Trail) → Follows r t → Follows s (moved t load))
+    → OnErr x ((t : Trail) → Follows r t → Follows s t)
+    → HasDone n 0 r → HasDone n most_changes s
+may_move (Ok v) r s n load f k d =
+    record { trail = moved d.trail load; follows = f d.trail d.follows; count = d.count; few = let few = d.few in omega arith }
+may_move (Err e) r s n load f k d =
+    record { trail = d.trail; follows = k d.trail d.follows; count = d.count; few = let few = d.few in omega arith }
 
 -- what `step_done` tells
 pub ends_step : (r s : Recording) (n steps : ℕ) → n + 1 ≡ steps

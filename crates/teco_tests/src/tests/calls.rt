@@ -15,7 +15,7 @@ use teco_lint::check;
 use teco_messages::show_code;
 use teco_replay::resume;
 use teco_scan::{Found, Item, TokenKind, first_fault, token_at};
-use teco_search::{Pattern, find};
+use teco_search::{Endless, Pattern, find};
 use teco_serve::{Asked, Splitter};
 use teco_session::Session;
 use teco_source::{commands, listing};
@@ -46,7 +46,10 @@ fn a_text_is_edited(alloc: Global) -> bool {
 /// teco_search: the second occurrence backward, across the place where the halves meet.
 fn an_occurrence_is_found(alloc: Global) -> bool {
     match Pattern::read(alloc, b"aXb", CaseMode::Exact) {
-        Ok(pattern) => find(&pattern, (b"aX", b"baXb"), 6, -2) == Some((0, 3)),
+        Ok(pattern) => matches!(
+            find(&pattern, (b"aX", b"baXb"), 6, -2, &Endless),
+            Ok(Some((0, 3)))
+        ),
         Err(_) => false,
     }
 }
@@ -100,7 +103,7 @@ fn a_token_is_done(alloc: Global) -> bool {
         inside: false,
         before: false,
     };
-    let next = step_token(desk, b"%A", &token, context, &mut args, term);
+    let next = step_token(desk, b"%A", &token, context, &mut args, term, &Endless);
     matches!(next, Next::On) && matches!(args.take(), Ok(Taken::One(1)))
 }
 

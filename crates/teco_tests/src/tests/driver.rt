@@ -239,6 +239,8 @@ const ROWS: &str = "
     - teco --seconds 3 in => <%A>\x1b\x1bQA=\x1b\x1b2{\x1b\x1bQA=\x1b\x1b => ?LIM\r\n1\r\n0\r\n => => => 2 => in == hi\n
     - teco --limit 2 in => <%A>\x1b\x1bQA=\x1b\x1b2{\x1b\x1bQA=\x1b\x1b => ?LIM\r\n1\r\n0\r\n => => => 2 => in == hi\n
     - teco --seconds 3 in => 1=\x1b\x1b2=\x1b\x1b3=\x1b\x1b4=\x1b\x1b5=\x1b\x1b => 1\r\n2\r\n3\r\n4\r\n5\r\n => => => 2 => in == hi\n
+    - // They end a search within its step.
+    - teco --seconds 10 in => @I/\x18/HXBGBHXBGB\x1b\x1bHXBGBHXBGBHXBGB\x1b\x1bHXBGBHXBGBHXBGB\x1b\x1bHXBGBHXBGB\x1b\x1bJ@I/Sq/ZJ@I/e\x1b/HXCHK\x1b\x1b@I/q/HXAGAHXAGA\x1b\x1bHXAGAHXAGAHXAGA\x1b\x1bHXAGAHXAGAHXAGA\x1b\x1bHXAGAHXAGAHXAGA\x1b\x1bHXAGA\x1b\x1b5JCCCCCMC\x1b\x1b.=\x1b\x1b => ?LIM\r\n10\r\n => => => 2 => in == hi\n
     - teco --limit 0 in => 1=\x1b\x1b => ?LIM\r\n => => => 2 => in == hi\n
     - teco --limit 5 in => YNc\x1b\x1bHT\x1b\x1b => ?LIM\r\nc => => => 2 => in == a\x0cb\x0cc
     - teco --undo 2 in => Ia\x1b\x1bIb\x1b\x1bIc\x1b\x1b3{\x1b\x1bHT\x1b\x1b => ?NTU\r\na => => => 2 => in == hi\n

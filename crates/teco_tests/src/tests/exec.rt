@@ -3,6 +3,7 @@ mod block_forms;
 pub(crate) mod breaks;
 mod conditionals;
 mod faults;
+mod given_up;
 mod iterations;
 mod jumps;
 mod line_ends;

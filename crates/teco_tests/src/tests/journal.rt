@@ -45,11 +45,6 @@ impl Rule for Reads {
     }
 }
 
-#[test]
-fn lines_are_read(rt: HostRuntime) {
-    all_hold(&rt, rt.alloc(), &Reads, READ);
-}
-
 /// The lines of a page, the depth, the input, and the head.
 const HEADS: &str = "
     - 0 => every => - => teco session 1\nlines 0\ndepth -\ninput 0\n\n6996772a1af895c2 begun\n
@@ -91,11 +86,6 @@ impl Rule for Heads {
     }
 }
 
-#[test]
-fn heads_are_read(rt: HostRuntime) {
-    all_hold(&rt, rt.alloc(), &Heads, HEADS);
-}
-
 /// Bytes that begin with no head, and why.
 const REFUSED: &str = "
     - - => torn
@@ -132,8 +122,11 @@ impl Rule for Refused {
 }
 
 #[test]
-fn other_bytes_are_refused(rt: HostRuntime) {
-    all_hold(&rt, rt.alloc(), &Refused, REFUSED);
+fn lines_and_heads_are_read(rt: HostRuntime) {
+    let alloc = rt.alloc();
+    all_hold(&rt, alloc, &Reads, READ);
+    all_hold(&rt, alloc, &Heads, HEADS);
+    all_hold(&rt, alloc, &Refused, REFUSED);
 }
 
 /// A head of 71 bytes and two records of 27 and 22.

@@ -2,4 +2,5 @@
 pub(crate) mod elements;
 mod halves;
 mod long_texts;
+mod patience;
 mod patterns;

@@ -1,13 +1,21 @@
 //! Runs that are broken off: each ends as under a limit of the steps that are done.
-use teco_exec::Stop;
+use teco_exec::{Patience, Stop};
 
 /// When a run is asked to stop.
 #[derive(Clone, Copy)]
 pub(crate) enum Asking {
     /// After so many steps,
     Steps(u64),
-    /// or when it is asked once more than so many times.
+    /// when it is asked once more than so many times,
     Answers(u64),
+    /// or within a step that lasts long: whether it is still to stop when that was given up.
+    Within(bool),
+}
+
+impl Patience for Asking {
+    fn has_ended(&self) -> bool {
+        matches!(self, Asking::Within(_))
+    }
 }
 
 impl Stop for Asking {
@@ -25,7 +33,12 @@ impl Stop for Asking {
                 }
                 None => true,
             },
+            Asking::Within(_) => false,
         }
+    }
+
+    fn asks_now(&mut self, _done: u64) -> bool {
+        matches!(self, Asking::Within(true))
     }
 }
 

@@ -7,7 +7,7 @@ use crate::tests::rows::{Cells, Rule, all_hold, cells_of, number_or};
 use crate::tests::session::requests::{Over, Trial, broken_off, holds_once, placed};
 use std::alloc::Global;
 use std::test::*;
-use teco_exec::{Never, Stop};
+use teco_exec::{Never, Patience, Stop};
 use teco_session::{Answer, Answered, Session};
 
 const ROWS: &str = "
@@ -74,7 +74,7 @@ const ROWS: &str = "
     ";
 
 /// Whether a place is told so, where it is.
-fn is_told(alloc: Global, answered: &Answered, told: &str) -> bool {
+pub(super) fn is_told(alloc: Global, answered: &Answered, told: &str) -> bool {
     let place = match &answered.place {
         Ok(Some(place)) => place,
         Ok(None) => return told.is_empty(),
@@ -151,5 +151,5 @@ fn runs_tell_where_they_last_stood(rt: HostRuntime) {
         all_hold(&rt, rt.alloc(), &Stands, table);
     }
     // Who never stops a run.
-    assert!(rt; !Never.asks(0));
+    assert!(rt; !Never.asks(0) && !Never.asks_now(0) && !Never.has_ended());
 }

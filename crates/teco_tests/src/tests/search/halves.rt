@@ -4,7 +4,7 @@ use crate::tests::rows::{Rule, all_hold, cells_of, halves_at, number_or};
 use std::alloc::Global;
 use std::test::*;
 use teco_core::CaseMode;
-use teco_search::{Pattern, find, find_plain};
+use teco_search::{Endless, Pattern, find, find_plain};
 
 /// A search text, a text, and how far apart the places are where the text is cut. A text is parts with a blank between two, and how often
 /// a part comes stands after it.
@@ -53,6 +53,23 @@ fn starts_at(found: Option<(usize, usize)>, start: Option<usize>) -> bool {
     }
 }
 
+/// Whether the first and the second place of the bytes are found where a plain loop says. All letters are small ones.
+fn are_plainly_found(bytes: &[u8], mode: CaseMode, text: &[u8], cut: usize, near: usize) -> bool {
+    let halves = text.split_at(cut);
+    let Ok(found) = find_plain(bytes, mode, halves, near, 1, &Endless) else {
+        return false;
+    };
+    let Ok(next) = find_plain(bytes, mode, halves, near, 2, &Endless) else {
+        return false;
+    };
+    let first = first_from(text, bytes, near);
+    let second = match first {
+        Some(start) => first_from(text, bytes, start.saturating_add(bytes.len())),
+        None => None,
+    };
+    starts_at(found, first) && starts_at(next, second)
+}
+
 /// Whether the bytes are found from both ends, and around the place where a text is cut.
 fn are_found(pattern: &Pattern, bytes: &[u8], text: &[u8], cut: usize) -> bool {
     if bytes.is_empty() || cut > text.len() {
@@ -60,10 +77,12 @@ fn are_found(pattern: &Pattern, bytes: &[u8], text: &[u8], cut: usize) -> bool {
     }
     let halves = text.split_at(cut);
     let near = cut.saturating_sub(bytes.len());
-    starts_at(
-        find_plain(bytes, halves, near),
-        first_from(text, bytes, near),
-    ) && starts_at(find(pattern, halves, cut, -1), last_by(text, bytes, cut))
+    let Ok(last) = find(pattern, halves, cut, -1, &Endless) else {
+        return false;
+    };
+    are_plainly_found(bytes, CaseMode::Exact, text, cut, near)
+        && are_plainly_found(bytes, CaseMode::Either, text, cut, near)
+        && starts_at(last, last_by(text, bytes, cut))
 }
 
 impl Rule for Found {

@@ -5,7 +5,7 @@ use crate::tests::session::random::roll;
 use std::alloc::Global;
 use std::test::*;
 use teco_core::CaseMode;
-use teco_search::{find_plain, is_plain};
+use teco_search::{Endless, find_plain, is_plain};
 
 /// The most bytes of a text.
 const FULL: usize = 16_777_216;
@@ -61,10 +61,12 @@ impl Rule for LongTexts {
         let part = part_of(alloc, &text, &cells);
         let halves = text.split_at((number_or(cells[1], 0) as usize).min(text.len()));
         let from = number_or(cells[5], 0) as usize;
-        if from > text.len() || !is_plain(&part, CaseMode::Exact) {
+        if from > text.len() || !is_plain(&part) {
             return false;
         }
-        let found = find_plain(&part, halves, from);
+        let Ok(found) = find_plain(&part, CaseMode::Exact, halves, from, 1, &Endless) else {
+            return false;
+        };
         let start = number_or(cells[6], 0) as usize;
         if cells[6].starts_with('-') {
             found.is_none()

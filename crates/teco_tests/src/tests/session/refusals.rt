@@ -7,6 +7,7 @@ use crate::tests::exec::strings::is_code;
 use crate::tests::rows::{Cells, LINE, cells_of, is_row};
 use crate::tests::store::states::{is_seen, seen};
 use std::alloc::Global;
+use std::process::Abort;
 use std::test::*;
 use teco_core::Code;
 use teco_exec::Outcome;
@@ -106,10 +107,6 @@ impl Trial for AsLimited<'_> {
     }
 }
 
-/// A row, whose string is run once.
-#[derive(Clone, Copy)]
-struct Refused<'a>(Cells<'a>);
-
 /// Whether a string is answered as its row says, or has done nothing, or just its whole steps.
 fn is_answered(
     alloc: Global,
@@ -150,11 +147,24 @@ fn turns(alloc: Global, session: &mut Session, first: &[u8]) -> bool {
         && is_seen(alloc, session.editor(), first)
 }
 
-impl Trial for Refused<'_> {
+/// A row, whose string is run once, and if it asks for no growth.
+#[derive(Clone, Copy)]
+struct Once<'a> {
+    cells: Cells<'a>,
+    is_free: bool,
+}
+
+impl Trial for Once<'_> {
     fn holds(&self, alloc: Global, session: &mut Session, term: &mut Screen) -> bool {
-        let cells = &self.0;
+        let cells = &self.cells;
         if !is_ready(alloc, session, cells[3]) {
             return true;
+        }
+        if self.is_free {
+            return is_code(
+                ran(session, cells[0].as_bytes(), LIMIT, term).code(),
+                cells[2],
+            );
         }
         let first = seen(alloc, session.editor());
         let answer = ran(session, cells[0].as_bytes(), LIMIT, term);
@@ -163,41 +173,27 @@ impl Trial for Refused<'_> {
     }
 }
 
-/// A row, whose string asks for no growth.
-#[derive(Clone, Copy)]
-struct Free<'a>(Cells<'a>);
-
-impl Trial for Free<'_> {
-    fn holds(&self, alloc: Global, session: &mut Session, term: &mut Screen) -> bool {
-        let cells = &self.0;
-        if !is_ready(alloc, session, cells[3]) {
-            return true;
-        }
-        let code = ran(session, cells[0].as_bytes(), LIMIT, term).code();
-        is_code(code, cells[2])
+/// Each row of a table holds at once, in a session that keeps so many strings, if that is said; with none it asks for no growth.
+fn each_holds(rt: &impl Abort, alloc: Global, table: &str, depth: Option<usize>) {
+    for row in table.split(LINE) {
+        let cells = cells_of(row);
+        let over = Over {
+            input: cells[1].as_bytes(),
+            page_lines: 0,
+            depth,
+        };
+        let is_free = depth.is_some();
+        let held = !is_row(row) || holds_once(alloc, &over, &Once { cells, is_free });
+        assert_of(rt, row, held);
     }
 }
 
 #[test]
 fn refused_strings_leave_whole_steps(rt: HostRuntime) {
-    for row in ROWS.split(LINE) {
-        let cells = cells_of(row);
-        let over = Over::new(cells[1].as_bytes());
-        let held = !is_row(row) || holds_once(rt.alloc(), &over, &Refused(cells));
-        assert_of(&rt, row, held);
-    }
+    each_holds(&rt, rt.alloc(), ROWS, None);
 }
 
 #[test]
 fn strings_without_growths_are_not_refused(rt: HostRuntime) {
-    for row in FREE.split(LINE) {
-        let cells = cells_of(row);
-        let over = Over {
-            input: cells[1].as_bytes(),
-            page_lines: 0,
-            depth: Some(0),
-        };
-        let held = !is_row(row) || holds_once(rt.alloc(), &over, &Free(cells));
-        assert_of(&rt, row, held);
-    }
+    each_holds(&rt, rt.alloc(), FREE, Some(0));
 }
