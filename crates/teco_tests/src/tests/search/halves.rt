@@ -55,6 +55,9 @@ fn starts_at(found: Option<(usize, usize)>, start: Option<usize>) -> bool {
 
 /// Whether the first and the second place of the bytes are found where a plain loop says. All letters are small ones.
 fn are_plainly_found(bytes: &[u8], mode: CaseMode, text: &[u8], cut: usize, near: usize) -> bool {
+    if bytes.is_empty() || cut > text.len() || near > text.len() {
+        return false;
+    }
     let halves = text.split_at(cut);
     let Ok(found) = find_plain(bytes, mode, halves, near, 1, &Endless) else {
         return false;

@@ -4,15 +4,22 @@ use std::alloc::Global;
 use std::test::*;
 use teco_step::line_place;
 
+/// Whether a line begins at a place, as seen from another.
+fn begins_at(halves: (&[u8], &[u8]), from: usize, n: i32, place: &str) -> bool {
+    from <= halves.0.len() + halves.1.len()
+        && line_place(halves.0, halves.1, from, n) as u64 == number_or(place, u64::MAX)
+}
+
 /// Whether lines begin at these places: that of a number, and those whose numbers differ by as much again.
 fn begin_at(halves: (&[u8], &[u8]), from: usize, first: i32, by: i32, places: &str) -> bool {
-    let mut held = from <= halves.0.len() + halves.1.len();
     let mut n = first;
     for place in places.split(' ') {
-        held = held && line_place(halves.0, halves.1, from, n) as u64 == number_or(place, u64::MAX);
+        if !begins_at(halves, from, n, place) {
+            return false;
+        }
         n = n.saturating_add(by);
     }
-    held
+    true
 }
 
 /// A text, a place in it, and as seen from there the places of lines 1, 2 and on, and those of lines 0, -1 and on.
@@ -24,14 +31,13 @@ impl Rule for Lines {
         let [text, from, ahead, back, ..] = cells_of(row);
         let bytes = text.as_bytes();
         let from = number_or(from, u64::MAX) as usize;
-        let mut held = true;
         for cut in 0..=bytes.len() {
             let halves = bytes.split_at(cut);
-            held = held
-                && begin_at(halves, from, 1, 1, ahead)
-                && begin_at(halves, from, 0, -1, back);
+            if !begin_at(halves, from, 1, 1, ahead) || !begin_at(halves, from, 0, -1, back) {
+                return false;
+            }
         }
-        held
+        true
     }
 }
 
