@@ -164,6 +164,22 @@ impl Args {
         self.depth = 0;
     }
 
+    /// Takes over the arguments of another.
+    ///
+    /// The levels around open parentheses are copied only where there are any, so that a call of a text is cheap.
+    #[inline(always)]
+    pub fn copy_from(&mut self, other: &Args)
+        ensures { arguments self.new ≡ arguments other.now }
+    {
+        if other.depth > 0 {
+            *self = *other;
+            return;
+        }
+        self.first = other.first;
+        self.expression = other.expression;
+        self.depth = 0;
+    }
+
     /// Gives a value to the level in use, to which a waiting operator or sign is applied.
     ///
     /// Answers [`Code::Arg`] after a value alone, and [`Code::Ovf`] or [`Code::Dvz`] where the operator or sign has no result.

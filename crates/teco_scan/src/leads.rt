@@ -8,7 +8,7 @@ ghost use Rattle.teco_scan.specs.declared.command.Form.TheVariants as form;
 
 use crate::command::{Bare, BlockMark, Form, RegisterCommand, TextCommand};
 use crate::names::lone_form;
-use crate::operand::{register_at, replace_at, tag_name_at, test_at, text_at};
+use crate::operand::{register_at, replace_at, test_at, text_at};
 use crate::table::NONE;
 use crate::token::{Found, Item, Span, Token, TokenKind};
 
@@ -171,7 +171,7 @@ pub fn tag_token(text: &[u8], at: usize, from: usize) -> Option<Found>
     ensures read { IfSome result (λ found. found_in text.now found ≡ scan (drop at text.now)) }
     ensures place { IfSome result (λ found. IsFoundAt text.now at found) }
 {
-    match tag_name_at(text, from + 1) {
+    match text_at(b'!', text, from + 1) {
         Ok((name, to)) => Some(plain(from, to, TokenKind::Tag(name))),
         Err(_) => None,
     }

@@ -1,5 +1,5 @@
 //! Reading what follows a command's name.
-ghost use Rattle.std.specs.Prelude.{◌≡◌, ◌+◌, ◌-◌, ◌<◌, ◌≤◌, ℕ, length, take, drop, IfOk};
+ghost use Rattle.std.specs.Prelude.{◌≡◌, ◌+◌, ◌<◌, ◌≤◌, ℕ, length, drop, IfOk};
 ghost use Rattle.memchr.specs.Find.{IsFirstByte, is_byte};
 ghost use Rattle.teco_scan.specs.Scan.{test_of, byte_at, register_at, test_at, delimiter_at, text_at, operand_at};
 ghost use Rattle.teco_scan.specs.Seen.{Gives, IsSpanIn, IsKindIn, IsKindPlaced, bytes_in, instruction_in};
@@ -88,7 +88,7 @@ fn delimiter_at(
     }
 }
 
-/// How many bytes are looked at one by one: most names of tags end within these.
+/// How many bytes are looked at one by one: most texts of commands and names of tags end within these.
 const NEAR: usize = 8;
 
 /// The first place of a byte. The nearest are looked at before a scan is set up.
@@ -108,34 +108,6 @@ fn first_place(byte: u8, bytes: &[u8]) -> Option<usize>
     }
 }
 
-/// The bytes before the delimiter that is here, and the place after it.
-#[inline]
-fn text_to(
-    delimiter: u8,
-    text: &[u8],
-    at: usize,
-    place: Option<usize>,
-) -> Result<(Span, usize), Code>
-    requires within { at ≤ length text.now }
-    requires first { IsFirstByte (is_byte delimiter) (take (length text.now - at) (drop at text.now)) place }
-    ensures read { Gives (λ x. (bytes_in text.now x.0, drop x.1 text.now)) result
-        (text_at delimiter (drop at text.now)) }
-    ensures within { IfOk result (λ x. (at ≤ x.1) × (x.1 ≤ length text.now)) }
-    ensures spans { IfOk result (λ x. IsSpanIn (length text.now) x.0) }
-    ensures placed { IfOk result (λ x. (x.0.from ≡ at) × (x.0.to + 1 ≡ x.1)) }
-{
-    match place {
-        None => Err(Code::Utc),
-        Some(n) => Ok((
-            Span {
-                from: at,
-                to: at + n,
-            },
-            at + n + 1,
-        )),
-    }
-}
-
 /// The bytes before the next delimiter, and the place after it.
 #[inline]
 pub(crate) fn text_at(delimiter: u8, text: &[u8], at: usize) -> Result<(Span, usize), Code>
@@ -146,20 +118,17 @@ pub(crate) fn text_at(delimiter: u8, text: &[u8], at: usize) -> Result<(Span, us
     ensures spans { IfOk result (λ x. IsSpanIn (length text.now) x.0) }
     ensures placed { IfOk result (λ x. (x.0.from ≡ at) × (x.0.to + 1 ≡ x.1)) }
 {
-    text_to(delimiter, text, at, memchr(delimiter, &text[at..]))
-}
-
-/// The name of a tag, which is short, and the place after it.
-#[inline]
-pub(crate) fn tag_name_at(text: &[u8], at: usize) -> Result<(Span, usize), Code>
-    requires { at ≤ length text.now }
-    ensures read { Gives (λ x. (bytes_in text.now x.0, drop x.1 text.now)) result
-        (text_at 33 (drop at text.now)) }
-    ensures within { IfOk result (λ x. (at ≤ x.1) × (x.1 ≤ length text.now)) }
-    ensures spans { IfOk result (λ x. IsSpanIn (length text.now) x.0) }
-    ensures placed { IfOk result (λ x. (x.0.from ≡ at) × (x.0.to + 1 ≡ x.1)) }
-{
-    text_to(b'!', text, at, first_place(b'!', &text[at..]))
+    let place = first_place(delimiter, &text[at..]);
+    match place {
+        None => Err(Code::Utc),
+        Some(n) => Ok((
+            Span {
+                from: at,
+                to: at + n,
+            },
+            at + n + 1,
+        )),
+    }
 }
 
 /// The text of a command.
@@ -253,7 +222,7 @@ pub(crate) fn operand_at(
         }
         Form::Text(command, usual) => one_text_at(command, usual, modifiers, text, at),
         Form::Tag => {
-            let (name, at) = tag_name_at(text, at)?;
+            let (name, at) = text_at(b'!', text, at)?;
             Ok((TokenKind::Tag(name), at))
         }
         Form::SetText => set_text_at(modifiers, text, at),

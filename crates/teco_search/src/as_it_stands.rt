@@ -1,6 +1,7 @@
 //! Search texts that are looked for as they stand.
 ghost use Rattle.std.specs.Prelude.{◌≡◌, ◌↔◌, ◌++◌, ◌<◌, ◌≤◌, ◌<ℤ◌, length, map, not, pos, IfOk, IfSome, IsOk, IsTrue, Ok};
 ghost use Rattle.std.specs.List.{list_all};
+ghost use Rattle.teco_core.specs.declared.case_mode.CaseMode.{CaseMode};
 ghost use Rattle.teco_search.specs.Literal.{plain, is_exact, IsLiteral, IsPlain};
 ghost use Rattle.teco_search.specs.Occurrence.{looked_for, occurrence};
 ghost use Rattle.teco_search.specs.Reading.{read};
@@ -9,6 +10,7 @@ ghost use Rattle.teco_search.specs.Spelling.{is_control};
 use crate::anchor::Anchor;
 use crate::element::is_exact;
 use crate::joined::Joined;
+use crate::literal;
 use crate::patience::{Asker, GivenUp, Patience};
 use crate::reading::is_control;
 use crate::search::{Forward, nth_forward};
@@ -37,6 +39,18 @@ pub fn is_plain(text: &[u8]) -> bool
     !text.is_empty() && has_no_control(text)
 }
 
+/// The first place at or after one where a text has these bytes, as its start and its end.
+fn first_exact(bytes: &[u8], text: &Joined, from: usize) -> Option<(usize, usize)>
+    requires some { 0 < length bytes.now }
+    requires within { from ≤ length text.now }
+    ensures value { (mode : CaseMode) → IsLiteral mode bytes.now
+        → result ≡ occurrence (looked_for mode (map plain bytes.now)) text.now from (pos 1) }
+    ensures within { IfSome result (λ m. (m.0 < m.1) × (m.1 ≤ length text.now)) }
+{
+    let start = literal::first_from(&Finder::new(bytes), text, from)?;
+    Some((start, start + bytes.len()))
+}
+
 /// The nth place at or after one where the text that the two halves are together has these bytes, as its start and its end. Takes no memory.
 ///
 /// So it is the nth occurrence of a search text that [`is_plain`], where no pattern was read. It may give up where patience has ended, but
@@ -60,14 +74,17 @@ pub fn find_plain<P: Patience>(
 {
     let text = Joined::new(halves.0, halves.1);
     let mut asker = Asker::new(patience);
-    let n = n.unsigned_abs();
+    let wanted = n.unsigned_abs();
     if all_exact(bytes, mode) {
+        if n == 1 {
+            return Ok(first_exact(bytes, &text, from));
+        }
         let search = Forward::Literal(mode, Finder::new(bytes));
-        let told = nth_forward(&search, &text, from, n, &mut asker)?;
+        let told = nth_forward(&search, &text, from, wanted, &mut asker)?;
         return Ok(told.ok());
     }
     let anchor = Anchor::of_bytes(mode, bytes);
     let search = Forward::Bytes(mode, bytes, &anchor);
-    let told = nth_forward(&search, &text, from, n, &mut asker)?;
+    let told = nth_forward(&search, &text, from, wanted, &mut asker)?;
     Ok(told.ok())
 }

@@ -12,8 +12,8 @@ returns-then-all_exact-clause-value g c =
     let same = to_z-of_z w32 c.args.n c.ranges.n in
     let text = c.args.halves.0.now ++ c.args.halves.1.now in
     let sought = looked_for c.args.mode (map plain c.args.bytes.now) in
-    let nth : slice_get (forward (looked_for c.args.mode (map plain c.new.result)) c.new-text.result c.args.from) (c.unsigned_abs-n.result - 1) ≡ occurrence sought text c.args.from c.args.n =
-    rw (c.new.ensures, c.new-text.ensures) (occurrence_forward sought text c.args.from c.args.n c.unsigned_abs-n.result c.requires.forward (rw same at c.unsigned_abs-n.ensures.value)) in
+    let nth : slice_get (forward (looked_for c.args.mode (map plain c.new.result)) c.new-text.result c.args.from) (c.unsigned_abs-wanted.result - 1) ≡ occurrence sought text c.args.from c.args.n =
+    rw (c.new.ensures, c.new-text.ensures) (occurrence_forward sought text c.args.from c.args.n c.unsigned_abs-wanted.result c.requires.forward (rw same at c.unsigned_abs-wanted.ensures.value)) in
     c.ok.ensures.value ∙ c.in_ok-told.ensures.found ∙ nth
 
 pub returns-then-all_exact-clause-within : goal.returns-then-all_exact-clause-within
@@ -28,8 +28,8 @@ returns-clause-value g c =
     let same = to_z-of_z w32 c.args.n c.ranges.n in
     let text = c.args.halves.0.now ++ c.args.halves.1.now in
     let sought = looked_for c.args.mode (map plain c.args.bytes.now) in
-    let nth : slice_get (forward sought c.new-text.result c.args.from) (c.unsigned_abs-n.result - 1) ≡ occurrence sought text c.args.from c.args.n =
-    rw c.new-text.ensures (occurrence_forward sought text c.args.from c.args.n c.unsigned_abs-n.result c.requires.forward (rw same at c.unsigned_abs-n.ensures.value)) in
+    let nth : slice_get (forward sought c.new-text.result c.args.from) (c.unsigned_abs-wanted.result - 1) ≡ occurrence sought text c.args.from c.args.n =
+    rw c.new-text.ensures (occurrence_forward sought text c.args.from c.args.n c.unsigned_abs-wanted.result c.requires.forward (rw same at c.unsigned_abs-wanted.ensures.value)) in
     c.ok-2.ensures.value ∙ c.in_ok-told-2.ensures.found ∙ nth
 
 pub returns-clause-within : goal.returns-clause-within
