@@ -15,18 +15,6 @@ use teco_core::{NoMemory, Reg};
 use teco_store::change::{PartChange, SmallChange};
 use teco_store::{Change, ChangeKind, Desk, Editor, change_laws};
 
-// Puts a number into a register, and gives the one that stood there.
-#[inline(always)]
-fn swap_number(editor: &mut Editor, q: Reg, number: i32) -> i32
-    requires { FitsFull (Number q number) editor.old }
-    ensures editor { editor.new ≡ full_after (Number q number) editor.old }
-    ensures number { Number q result ≡ turn_after (Number q number) editor.old.body }
-{
-    let there = editor.registers().number(q);
-    let _held = editor.put_small(SmallChange::Number(q, number));
-    there
-}
-
 // Puts the pointer at a place, and gives the one where it stood.
 #[inline(always)]
 fn swap_pointer(editor: &mut Editor, pointer: u32) -> u32
@@ -142,7 +130,7 @@ impl ChangeList {
         let value = slot.value;
         if let SlotValue::Number(q, _) = value {
             if let SlotValue::Number(_, number) = &mut slot.value {
-                *number = swap_number(editor, q, *number);
+                *number = editor.put_number(q, *number);
             }
         } else {
             self.turn_other(i, editor);
@@ -196,6 +184,19 @@ impl ChangeList {
         ensures apart { self.new.apart ≡ self.old.apart }
     {
         let value = SlotValue::of(small);
+        self.slots.push_reserved(Slot { step, value });
+    }
+
+    /// Notes a number that stood in a register, at a place that was found. Takes no memory.
+    #[inline(always)]
+    pub(crate) fn push_number(&mut self, step: u32, q: Reg, number: i32)
+        requires { 0 < self.old.spare }
+        ensures items { self.new.items
+            ≡ self.old.items ++ record { step = step; turn = Number q number } ∷ [] }
+        ensures spare { self.new.spare + 1 ≡ self.old.spare }
+        ensures apart { self.new.apart ≡ self.old.apart }
+    {
+        let value = SlotValue::Number(q, number);
         self.slots.push_reserved(Slot { step, value });
     }
 

@@ -8,7 +8,7 @@ ghost use Rattle.teco_undo.specs.Slots.{HasSlot};
 ghost use Rattle.teco_undo.specs.Follows.{Follows, FollowsAfterChanges};
 ghost use Rattle.teco_store.specs.State.{IsSound, state_of};
 ghost use Rattle.teco_store.specs.Trail.{Trail};
-ghost use Rattle.teco_store.specs.Turn.{body_after, full_after, FitsFull, Splice};
+ghost use Rattle.teco_store.specs.Turn.{body_after, full_after, FitsFull, Number, Splice};
 
 mod pages;
 mod recording;
@@ -18,7 +18,7 @@ mod texts;
 use crate::change_list::ChangeList;
 use std::marker::Model;
 use std::mem;
-use teco_core::TEXT_LIMIT;
+use teco_core::{Reg, TEXT_LIMIT};
 use teco_store::change::{PartChange, PartValue, SmallChange};
 use teco_store::{Editor, SHORT_LIMIT};
 
@@ -138,6 +138,22 @@ impl Recorder {
         let _shown = self.editor.shown();
         let held = self.editor.put_small(small);
         self.entry.push(self.done as u32, held);
+    }
+
+    // Puts a number into a register before 2^32 steps, and notes the one that stood there. It is the commonest change, and in line in each
+    // command that sets a number, so it is written for itself.
+    #[inline(always)]
+    fn note_number(&mut self, q: Reg, number: i32)
+        requires early { self.old.done < 2 ^ 32 }
+        requires spare { 0 < self.old.spare }
+        requires fits { FitsFull (Number q number) self.old.full }
+        ensures full { self.new.full ≡ full_after (Number q number) self.old.full }
+        ensures goes { FollowsAfterChanges 0 1 self.old self.new }
+    {
+        // This shows that what the editor holds is within its limits.
+        let _shown = self.editor.shown();
+        let there = self.editor.put_number(q, number);
+        self.entry.push_number(self.done as u32, q, there);
     }
 
     // Puts a value in its place, and notes what stood there, which is held apart.

@@ -4,7 +4,7 @@ ghost use Rattle.std.specs.Vec.{vec_capacity};
 ghost use Rattle.teco_store.specs.ChangeView.{small_turn, turn_of, HasRoom, IsHere};
 ghost use Rattle.teco_store.specs.declared.change.PartValue.TheVariants.{Splice, Lend, PutIn, TakeOut, PopInto, PutBack};
 ghost use Rattle.teco_store.specs.Turn as turn;
-ghost use Rattle.teco_store.specs.Turn.{turn_after, full_after, FitsFull};
+ghost use Rattle.teco_store.specs.Turn.{turn_after, full_after, FitsFull, Number};
 
 use crate::change::{Loan, PartValue, SmallChange, TextSpan};
 use crate::editor::Editor;
@@ -16,6 +16,19 @@ use std::sync::Arc;
 use teco_core::{Reg, Value};
 
 impl Editor {
+    /// Puts a number into a register, and gives the one that stood there. Takes no memory.
+    #[inline(always)]
+    pub fn put_number(&mut self, q: Reg, number: i32) -> i32
+        requires { FitsFull (Number q number) self.old }
+        ensures editor { self.new ≡ full_after (Number q number) self.old }
+        ensures number { Number q result ≡ turn_after (Number q number) self.old.body }
+    {
+        let registers = &mut self.registers;
+        let there = registers.number(q);
+        registers.set_number(q, number);
+        there
+    }
+
     /// Puts a value that lies in its change in its place, and gives what stood there. Takes no memory.
     ///
     /// In line, since a caller's value is mostly known: then nothing is matched, and nothing goes through memory.
@@ -49,12 +62,7 @@ impl Editor {
             SmallChange::Point(pointer) => {
                 SmallChange::Point(mem::replace(&mut self.pointer, pointer as usize) as u32)
             }
-            SmallChange::Number(q, number) => {
-                let registers = &mut self.registers;
-                let there = registers.number(q);
-                registers.set_number(q, number);
-                SmallChange::Number(q, there)
-            }
+            SmallChange::Number(q, number) => SmallChange::Number(q, self.put_number(q, number)),
             SmallChange::Pages {
                 place,
                 end,

@@ -144,12 +144,16 @@ impl Desk for Recorder {
         self.change(SmallChange::Point(place as u32))
     }
 
-    // Out of line too, since the steps of a run are so long with it that Rattle would no longer put them in line.
-    #[inline(never)]
+    #[inline(always)]
     fn set_number(&mut self, q: Reg, number: i32) -> Result<(), Refused> {
         // This shows that the register is one of 36.
         let _index = q.index();
-        self.change(SmallChange::Number(q, number))
+        if self.done >= 4_294_967_296 {
+            return self.change_apart(PartValue::Small(SmallChange::Number(q, number)));
+        }
+        self.reserve_early(1, 0)?;
+        self.note_number(q, number);
+        Ok(())
     }
 
     fn set_text(&mut self, q: Reg, text: Vec<u8>) -> Result<(), Refused> {

@@ -9,8 +9,8 @@ use Rattle.teco_undo.proofs.Listing.{seen_here, turned_here, in_place-turned}
 use Rattle.teco_undo.proofs.Slots.{same_register, number_here}
 use Rattle.teco_undo.proofs.change_list.ChangeList.turn.Goals as goal
 
-pub swap_number-requires : goal.swap_number-requires
-swap_number-requires c =
+pub put_number-requires : goal.put_number-requires
+put_number-requires c =
     let slot = c.index_mut-slot.result.now in
     let number = c.in-Number-value.number in
     let at : small.Number c.in-Number.q number ≡ small_of slot = number_here slot c.in-Number.q c.in-Number-value.field-0 c.in-Number.field-1 number c.in-Number.is c.in-Number-value.is in
@@ -29,9 +29,9 @@ returns-in-Number-value-clause-items c =
     let slot = c.index_mut-slot.result.now in
     let q = c.in-Number.q in
     let number = c.in-Number-value.number in
-    let there = to_z w32 (of_z w32 c.swap_number.result) in
+    let there = to_z w32 (of_z w32 c.put_number.result) in
     let same : q ≡ c.in-Number-value.field-0 = same_register slot.value q c.in-Number-value.field-0 c.in-Number.field-1 number c.in-Number.is c.in-Number-value.is in
     let at : small.Number q number ≡ small_of slot = number_here slot q c.in-Number-value.field-0 c.in-Number.field-1 number c.in-Number.is c.in-Number-value.is in
-    let turned : turn.Number q there ≡ turn_after (turn.Number q number) c.args.editor.now.body = search (rules, c.swap_number.ensures.number) in
+    let turned : turn.Number q there ≡ turn_after (turn.Number q number) c.args.editor.now.body = search (rules, c.put_number.ensures.number) in
     turned_here c.self.inside c.args.self.now c.args.i slot _ (small.Number q number) c.args.editor.now.body c.self.view_is c.requires.within c.index_mut-slot.ensures.value
     at tt tt refl (ap (λ (r : Reg). turn.Number r there) (sym same) ∙ turned)
