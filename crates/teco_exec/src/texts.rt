@@ -153,7 +153,7 @@ pub(crate) fn run_in<D: Desk, S: Stop, T: Terminal, W: Watch>(
                 }
             }
             Flow::Return => {
-                *args = cursor.args;
+                args.copy_from(&cursor.args);
                 return Exit::Return;
             }
             Flow::Over => return Exit::Over,

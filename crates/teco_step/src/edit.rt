@@ -58,6 +58,7 @@ pub fn to_line<D: Desk>(desk: &mut D, args: &mut Args) -> Result<Next, Failure>
 
 /// Puts bytes for so many at a place, and the pointer after them. The command is then done, and its arguments gone. A text past its
 /// limit is [`Code::Big`].
+#[inline(always)]
 pub(crate) fn put<D: Desk>(
     desk: &mut D,
     at: usize,

@@ -85,6 +85,7 @@ fn build(arithmetic: Arithmetic, length: usize, args: &mut Args) -> Result<(), C
 }
 
 /// `H` gives a pair, an operator waits for the next value, a parenthesis opens or closes, and a comma makes a value the first of two.
+#[inline(always)]
 pub fn arithmetic<D: Desk>(
     desk: &D,
     arithmetic: Arithmetic,
@@ -134,7 +135,7 @@ fn give_code<D: Desk>(desk: &D, n: i32, args: &mut Args) -> Result<Next, Failure
 }
 
 /// `nA` gives the code of a character. `A` without n reads a page.
-#[inline]
+#[inline(always)]
 fn append<D: Desk>(desk: &mut D, args: &mut Args) -> Result<Next, Failure>
     ensures { Acts D.Desk (goes values.append) (desk.old, args.old) (desk.new, args.new) result }
 {
@@ -147,7 +148,7 @@ fn append<D: Desk>(desk: &mut D, args: &mut Args) -> Result<Next, Failure>
 }
 
 /// A value or a command, by what the level has.
-#[inline]
+#[inline(always)]
 pub fn at_level<D: Desk>(
     desk: &mut D,
     command: LevelCommand,

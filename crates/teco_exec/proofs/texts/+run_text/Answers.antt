@@ -53,7 +53,7 @@ run_in-running-preserved-in-On g t c = record {
 pub run_in-returns-in-Return-clause-leads : goal.run_in-returns-in-Return-clause-leads
 run_in-returns-in-Return-clause-leads g t c o callers deep e =
     let there = c.running.invariant.going o callers deep e in
-    since 0 o _ _ _ (goes (at_return (arguments c.step_watched.new.cursor.args) callers)) there.follows (c.in-Return.ensures.step.leads o callers there.going)
+    rw c.copy_from.ensures (since 0 o _ _ _ (goes (at_return (arguments c.step_watched.new.cursor.args) callers)) there.follows (c.in-Return.ensures.step.leads o callers there.going))
 
 pub run_in-returns-in-Over-clause-leads : goal.run_in-returns-in-Over-clause-leads
 run_in-returns-in-Over-clause-leads g t c o callers deep e =
