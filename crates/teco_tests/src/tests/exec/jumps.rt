@@ -21,5 +21,7 @@ pub(super) const ROWS: &str = "
     // Macros end as they mean.
     @^UA/;/<MA>\x1b => => SNI => 4
     @^UA/+1/2MA=\x1b => 3\r\n => => 6
+    @^UA/(1+/MA2)=\x1b => 3\r\n
+    @^UA/+4)*3/2*(1MA=\x1b => 30\r\n
     @^UA/MA/MA\x1b => => PDO => 34
     ";
