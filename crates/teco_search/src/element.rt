@@ -85,6 +85,7 @@ pub(crate) fn is_blank(byte: u8) -> bool
 }
 
 /// Whether a byte as an item admits itself alone.
+#[inline(always)]
 pub(crate) fn is_exact(mode: CaseMode, byte: u8) -> bool
     ensures { result ≡ is_exact mode byte }
 {

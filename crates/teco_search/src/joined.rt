@@ -1,9 +1,10 @@
 //! A text that lies in two halves.
 ghost use Rattle.std.specs.Prelude.{◌≡◌, ◌++◌, ◌+◌, ◌^◌, ◌<◌, ◌≤◌, ℕ, List, length, slice_get, IfSome, IsTrue, ◌↔◌};
-ghost use Rattle.memchr.specs.Find.{OccursAt, Passes, IsFirst, IsLast};
+ghost use Rattle.memchr.specs.Find.{OccursAt, Passes, is_byte, IsFirst, IsLast};
 ghost use Rattle.teco_search.specs.ByteSet.{AreBytes, contains};
 
 use crate::byte_set::ByteSet;
+use memchr::memchr;
 use std::marker::Model;
 
 /// Two slices, seen as the one text that they are together.
@@ -22,6 +23,7 @@ impl<'t> Model for Joined<'t> {
 }
 
 impl<'t> Joined<'t> {
+    #[inline(always)]
     pub(crate) fn new(before: &'t [u8], after: &'t [u8]) -> Self
         ensures { result ≡ before.now ++ after.now }
     {
@@ -52,10 +54,30 @@ impl<'t> Joined<'t> {
     }
 
     /// The two halves.
+    #[inline(always)]
     pub(crate) fn halves(&self) -> (&'t [u8], &'t [u8])
         ensures { result.0.now ++ result.1.now ≡ self.now }
     {
         (self.before, self.after)
+    }
+
+    /// The first place at or after one that has this byte.
+    #[inline(always)]
+    pub(crate) fn first_byte(&self, byte: u8, from: usize) -> Option<usize>
+        requires { from ≤ length self.now }
+        ensures value { IsFirst (Passes (is_byte byte) self.now) from (length self.now) result }
+        ensures within { IfSome result (λ place. place + 1 < 2 ^ 64) }
+    {
+        let cut = self.before.len();
+        if from >= cut {
+            let place = memchr(byte, &self.after[from - cut..])?;
+            return Some(from + place);
+        }
+        if let Some(place) = memchr(byte, &self.before[from..]) {
+            return Some(from + place);
+        }
+        let place = memchr(byte, self.after)?;
+        Some(cut + place)
     }
 
     /// The first place at or after one whose byte is in a set.

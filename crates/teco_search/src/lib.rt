@@ -22,7 +22,7 @@ mod run;
 mod search;
 mod window;
 
-pub use as_it_stands::{find_plain, is_plain};
+pub use as_it_stands::{find_byte, find_exact, find_plain, is_plain};
 pub use element::{Class, Element, Items, OneByte, SetItem};
 pub use law::{literal_texts, occurrences, search_texts};
 pub use line_end::{first_line_end, last_line_end};

@@ -15,11 +15,14 @@ use crate::joining::allocator;
 use crate::next::{Next, Setting};
 use crate::registers::give_alone;
 use crate::taking::{takes_none, takes_one_or, truth};
-use teco_core::{Args, Code};
-use teco_search::{Patience, Pattern, find, find_plain, is_plain, matches_at};
+use teco_core::{Args, Code, Taken};
+use teco_search::{
+    Patience, Pattern, find, find_byte, find_exact, find_plain, is_plain, matches_at,
+};
 use teco_store::Desk;
 
 /// The text that a search means: an empty one means the last one.
+#[inline(always)]
 fn meant<'a, D: Desk>(desk: &'a D, text: &'a [u8]) -> &'a [u8]
     ensures { result.now ≡ searching.text_or_last text.now (D.state desk.now) }
 {
@@ -59,6 +62,7 @@ pub(crate) fn sought<D: Desk>(desk: &D, text: &[u8]) -> Result<Pattern, Failure>
 }
 
 /// The number that a search takes, which may not be 0.
+#[inline(always)]
 fn takes_count(args: &Args) -> Result<i32, Failure>
     ensures { Takes (λ n. n) result (searching.takes_count (arguments args.now)) }
 {
@@ -69,9 +73,56 @@ fn takes_count(args: &Args) -> Result<i32, Failure>
     Ok(n)
 }
 
+/// Where the next occurrence from the pointer begins and ends of a text of one byte, which admits itself alone, where no number is given.
+#[inline(always)]
+fn byte_found<D: Desk>(desk: &D, text: &[u8], args: &Args) -> Option<Option<(usize, usize)>>
+    ensures value { IfSome result (λ m. searching.found text.now (D.state desk.now) (arguments args.now) ≡ Ok m) }
+    ensures within { IfSome result (λ found. IfSome found
+        (λ m. (m.0 ≤ m.1) × (m.1 ≤ length (D.state desk.now).text))) }
+{
+    match args.taken() {
+        Ok(Taken::None) => find_byte(text, desk.case_mode(), desk.halves(), desk.pointer()),
+        _ => None,
+    }
+}
+
+/// Where the next occurrence from the pointer begins and ends of a text whose bytes admit themselves alone, where no number is given.
+#[inline(always)]
+fn found_exactly<D: Desk>(desk: &D, text: &[u8], args: &Args) -> Option<Option<(usize, usize)>>
+    ensures value { IfSome result (λ m. searching.found text.now (D.state desk.now) (arguments args.now) ≡ Ok m) }
+    ensures within { IfSome result (λ found. IfSome found
+        (λ m. (m.0 ≤ m.1) × (m.1 ≤ length (D.state desk.now).text))) }
+{
+    match args.taken() {
+        Ok(Taken::None) => find_exact(text, desk.case_mode(), desk.halves(), desk.pointer()),
+        _ => None,
+    }
+}
+
+/// Where the nth occurrence of a text from the pointer begins and ends, if there is one.
+#[inline(always)]
+fn found<D: Desk, P: Patience>(
+    desk: &D,
+    text: &[u8],
+    args: &Args,
+    patience: &P,
+) -> Result<Option<(usize, usize)>, Failure>
+    ensures ok { IfOk result (λ m. searching.found text.now (D.state desk.now) (arguments args.now) ≡ Ok m) }
+    ensures err { IfErr result (λ failure. IsRefusal failure
+        (searching.found text.now (D.state desk.now) (arguments args.now)) ⊎ (failure ≡ Memory)) }
+    ensures within { IfOk result (λ found. IfSome found
+        (λ m. (m.0 ≤ m.1) × (m.1 ≤ length (D.state desk.now).text))) }
+{
+    match found_exactly(desk, text, args) {
+        Some(place) => Ok(place),
+        None => found_apart(desk, text, args, patience),
+    }
+}
+
 /// Where the nth occurrence of a text from the pointer begins and ends, if there is one. Forward a plain text is looked for as it stands,
 /// which takes no memory.
-fn found<D: Desk, P: Patience>(
+#[inline(never)]
+fn found_apart<D: Desk, P: Patience>(
     desk: &D,
     text: &[u8],
     args: &Args,
@@ -114,6 +165,7 @@ fn answer(asked: bool, found: bool, args: &mut Args)
 }
 
 /// Notes the text and the result, puts the pointer at a place, and leaves the result where it is asked for. The step then leads on.
+#[inline(always)]
 pub(crate) fn note<D: Desk>(
     desk: &mut D,
     text: &[u8],
@@ -146,6 +198,7 @@ fn after_failing(setting: Setting) -> Next
 }
 
 /// The search failed: the pointer goes to 0, and the string ends unless a colon asks or a `;` comes next in an iteration.
+#[inline(never)]
 pub(crate) fn fail<D: Desk>(
     desk: &mut D,
     text: &[u8],
@@ -160,6 +213,7 @@ pub(crate) fn fail<D: Desk>(
 }
 
 /// `nS` looks for the nth occurrence of the text, and puts the pointer after it.
+#[inline(never)]
 fn search<D: Desk, P: Patience>(
     desk: &mut D,
     text: &[u8],
@@ -189,6 +243,7 @@ fn matched<D: Desk>(desk: &D, text: &[u8]) -> Result<Option<usize>, Failure>
 }
 
 /// `::S` tells whether the text is at the pointer, and puts the pointer after it.
+#[inline(never)]
 fn compare<D: Desk>(desk: &mut D, text: &[u8], args: &mut Args) -> Result<Next, Failure>
     ensures { Acts D.Desk (steers (searching.compare text.now))
         (desk.old, args.old) (desk.new, args.new) result }
@@ -204,6 +259,7 @@ fn compare<D: Desk>(desk: &mut D, text: &[u8], args: &mut Args) -> Result<Next, 
 }
 
 /// `S`, and `::S`.
+#[inline(always)]
 pub fn search_or_compare<D: Desk, P: Patience>(
     desk: &mut D,
     text: &[u8],
@@ -217,7 +273,19 @@ pub fn search_or_compare<D: Desk, P: Patience>(
     if setting.modifiers.colons == 2 {
         return compare(desk, text, args);
     }
-    search(desk, text, setting, args, patience)
+    match byte_found(desk, text, args) {
+        None => search(desk, text, setting, args, patience),
+        Some(None) => fail(desk, text, setting, args),
+        Some(Some((_, end))) => note(
+            desk,
+            text,
+            true,
+            end,
+            setting.modifiers.colons == 1,
+            Next::On,
+            args,
+        ),
+    }
 }
 
 /// `nFS` looks for the nth occurrence of the text, and puts the bytes in its place.

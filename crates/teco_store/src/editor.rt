@@ -268,6 +268,7 @@ impl Desk for Editor {
         Ok(())
     }
 
+    #[inline(always)]
     fn note_search(
         &mut self,
         text: Option<&[u8]>,

@@ -3,7 +3,7 @@ ghost use Rattle.std.specs.Prelude.{◌≡◌, ◌+◌, ◌≤◌, length, optio
 ghost use Rattle.std.specs.Option.{option_copied};
 ghost use Rattle.teco_store.specs.PageSpan.{IsPageSpan};
 ghost use Rattle.teco_store.specs.Page.{brought, page};
-ghost use Rattle.teco_store.specs.Search.{fresh, length_of, text_after};
+ghost use Rattle.teco_store.specs.Search.{fresh, is_last, length_of, text_after};
 ghost use Rattle.teco_store.specs.State.{with_body};
 
 use crate::editor::Editor;
@@ -37,6 +37,17 @@ impl Editor {
         self.form_feed = form_feed;
     }
 
+    // Whether a text is the last search text.
+    #[inline(always)]
+    fn is_last_search(&self, text: &[u8]) -> bool
+        ensures { result ≡ is_last self.now.body.last_search text.now }
+    {
+        match &self.last_search {
+            None => false,
+            Some(last) => text == last.as_slice(),
+        }
+    }
+
     /// A copy of a text to be noted; none where it is the last one again.
     pub fn fresh_text(&self, text: Option<&[u8]>) -> Result<Option<Vec<u8>>, NoMemory>
         ensures copy { IfOk result (λ f. option_map (λ v. v.items) f
@@ -46,17 +57,14 @@ impl Editor {
         let Some(text) = text else {
             return Ok(None);
         };
-        let again = match &self.last_search {
-            None => false,
-            Some(last) => text == last.as_slice(),
-        };
-        if again {
+        if self.is_last_search(text) {
             return Ok(None);
         }
         Ok(Some(Vec::from_slice(*self.input.allocator(), text)?))
     }
 
     // Makes a text the last search text; none leaves it. The same text again takes no memory.
+    #[inline(always)]
     pub(super) fn note_text(&mut self, text: Option<&[u8]>) -> Result<(), NoMemory>
         requires { length_of (option_copied text) ≤ TEXT_LIMIT }
         ensures ok { OnOk result (self.new ≡ with_body self.old (record self.old.body {
@@ -65,9 +73,13 @@ impl Editor {
         ensures err { OnErr result (self.new ≡ self.old) }
         ensures none { fresh self.old.body.last_search (option_copied text.entry) ≡ None → IsOk result }
     {
-        if let Some(fresh) = self.fresh_text(text)? {
-            self.last_search = Some(fresh);
+        let Some(text) = text else {
+            return Ok(());
+        };
+        if self.is_last_search(text) {
+            return Ok(());
         }
+        self.last_search = Some(Vec::from_slice(*self.input.allocator(), text)?);
         Ok(())
     }
 }

@@ -4,7 +4,7 @@ use crate::tests::rows::{Rule, all_hold, cells_of, halves_at, number_or};
 use std::alloc::Global;
 use std::test::*;
 use teco_core::CaseMode;
-use teco_search::{Endless, Pattern, find, find_plain};
+use teco_search::{Endless, Pattern, find, find_byte, find_exact, find_plain};
 
 /// A search text, a text, and how far apart the places are where the text is cut. A text is parts with a blank between two, and how often
 /// a part comes stands after it.
@@ -73,6 +73,46 @@ fn are_plainly_found(bytes: &[u8], mode: CaseMode, text: &[u8], cut: usize, near
     starts_at(found, first) && starts_at(next, second)
 }
 
+/// Whether each of the bytes admits itself alone.
+fn admit_themselves(bytes: &[u8], mode: CaseMode) -> bool {
+    match mode {
+        CaseMode::Exact => true,
+        CaseMode::Either => !bytes.iter().any(|byte| byte.is_ascii_alphabetic()),
+    }
+}
+
+/// Whether an answer is the first place that a plain loop tells, where there is to be one.
+fn is_answer(answer: Option<Option<(usize, usize)>>, first: Option<usize>, wanted: bool) -> bool {
+    match answer {
+        Some(found) => wanted && starts_at(found, first),
+        None => !wanted,
+    }
+}
+
+/// Whether the first place of bytes that admit themselves alone is found where a plain loop says, and no answer is given for others.
+fn are_exactly_found(bytes: &[u8], mode: CaseMode, text: &[u8], cut: usize, near: usize) -> bool {
+    if bytes.is_empty() || cut > text.len() || near > text.len() {
+        return false;
+    }
+    let halves = text.split_at(cut);
+    let first = first_from(text, bytes, near);
+    let exact = admit_themselves(bytes, mode);
+    is_answer(find_exact(bytes, mode, halves, near), first, exact)
+        && is_answer(
+            find_byte(bytes, mode, halves, near),
+            first,
+            exact && bytes.len() == 1,
+        )
+}
+
+/// Whether the bytes are found in both case modes.
+fn are_found_forward(bytes: &[u8], text: &[u8], cut: usize, near: usize) -> bool {
+    are_plainly_found(bytes, CaseMode::Exact, text, cut, near)
+        && are_plainly_found(bytes, CaseMode::Either, text, cut, near)
+        && are_exactly_found(bytes, CaseMode::Exact, text, cut, near)
+        && are_exactly_found(bytes, CaseMode::Either, text, cut, near)
+}
+
 /// Whether the bytes are found from both ends, and around the place where a text is cut.
 fn are_found(pattern: &Pattern, bytes: &[u8], text: &[u8], cut: usize) -> bool {
     if bytes.is_empty() || cut > text.len() {
@@ -83,9 +123,7 @@ fn are_found(pattern: &Pattern, bytes: &[u8], text: &[u8], cut: usize) -> bool {
     let Ok(last) = find(pattern, halves, cut, -1, &Endless) else {
         return false;
     };
-    are_plainly_found(bytes, CaseMode::Exact, text, cut, near)
-        && are_plainly_found(bytes, CaseMode::Either, text, cut, near)
-        && starts_at(last, last_by(text, bytes, cut))
+    are_found_forward(bytes, text, cut, near) && starts_at(last, last_by(text, bytes, cut))
 }
 
 impl Rule for Found {
@@ -125,6 +163,12 @@ const ROWS: &str = "
     ab*50 => ab*130 => 7
     abcab*20 => b abcab*50 => 7
     aab*40 => aab*39 aa aab*60 => 7
+    // One byte, a letter and another.
+    a => b*40 a b*40 a
+    a => a b*3
+    a => b*70
+    7 => b*33 7 a*2 7
+    -7- => a*20 -7 -7- a*20
     // It ends with the text, or there is none.
     a*33 => a*33
     a*33 => a*32

@@ -3,7 +3,7 @@ use Rattle.std.proofs.lemmas.Int.{to_z-of_z}
 use mir.Val.{of_z, to_z}
 use Rattle.teco_search.specs.Occurrence.{occurrence}
 use Rattle.teco_step.proofs.Acting.{passes, refusal_then, then_ok, why_after, why_then}
-use Rattle.teco_step.proofs.searching.found.Goals as goal
+use Rattle.teco_step.proofs.searching.found_apart.Goals as goal
 
 pub returns-in_err-n-clause-err : goal.returns-in_err-n-clause-err
 returns-in_err-n-clause-err g c =
