@@ -9,6 +9,8 @@ use Rattle.teco_core.specs.Refusal.{◌>>=◌}
 use Rattle.teco_core.specs.Ascii.{is_digit, upper}
 use Rattle.teco_core.specs.Register.{register_of}
 use Rattle.teco_scan.specs.declared.command.Row.{Row}
+use Rattle.teco_scan.specs.declared.profile.Profile.{Profile}
+use Rattle.teco_scan.specs.declared.profile.Profile.TheVariants.{Named, Wide}
 use Rattle.teco_scan.specs.declared.command.Modifiers.{Modifiers}
 use Rattle.teco_scan.specs.declared.command.Name.{Name}
 use Rattle.teco_scan.specs.declared.command.Name.TheVariants.{One, Two, Three, Control}
@@ -71,12 +73,17 @@ register_cuts (b ∷ bs) = here (register_of b)
     here None = λ is. absurd cc
     here (Some q) = tt
 
-test_cuts : (bs : List ℕ) → Faults (CutOf IsTest bs) (test_at bs)
-unfolding test_at byte_at test_of
-test_cuts [] = λ is. (tests.Letter, 65 ∷ [], (65, refl, refl))
-test_cuts (b ∷ bs) = here (test_of b)
+a_letter : (p : Profile) → test_of p 65 ≡ Some tests.Letter
+unfolding test_of
+a_letter Named = refl
+a_letter Wide = refl
+
+test_cuts : (p : Profile) (bs : List ℕ) → Faults (CutOf (IsTest p) bs) (test_at p bs)
+unfolding test_at byte_at
+test_cuts p [] = λ is. (tests.Letter, 65 ∷ [], (65, a_letter p, refl))
+test_cuts p (b ∷ bs) = here (test_of p b)
   where
-    here : (o : Option Test) → Faults (CutOf IsTest (b ∷ bs)) (or_else o Iqc >>= (λ q. Ok (q, bs)))
+    here : (o : Option Test) → Faults (CutOf (IsTest p) (b ∷ bs)) (or_else o Iqc >>= (λ q. Ok (q, bs)))
     here None = λ is. absurd cc
     here (Some q) = tt
 
@@ -101,8 +108,10 @@ operand_cuts (form.Register c) m bs = then_cut IsRegister (λ o front. SpellsOpe
     (λ q front is. nil_after (λ o front. SpellsOperand (form.Register c) m o front) (step (register c q)) front (subst (λ w. SpellsOperand (form.Register c) m (step (register c q)) w) (sym is.2) (register_spelled is.1))) (λ q front is. tt)
 operand_cuts form.Byte m bs = then_cut IsByte (λ o front. SpellsOperand form.Byte m o front) bs (byte_at bs) _ (byte_takes bs) (byte_cuts bs)
     (λ b front is. nil_after (λ o front. SpellsOperand form.Byte m o front) (step (byte b)) front (subst (λ w. SpellsOperand form.Byte m (step (byte b)) w) (sym is) byte_spelled)) (λ b front is. tt)
-operand_cuts form.Test m bs = then_cut IsTest (λ o front. SpellsOperand form.Test m o front) bs (test_at bs) _ (test_takes bs) (test_cuts bs)
-    (λ t front is. nil_after (λ o front. SpellsOperand form.Test m o front) (decide t) front (subst (λ w. SpellsOperand form.Test m (decide t) w) (sym is.2) (test_spelled is.1))) (λ t front is. tt)
+operand_cuts form.Test m bs = then_cut (IsTest Named) (λ o front. SpellsOperand form.Test m o front) bs (test_at Named bs) _ (test_takes Named bs) (test_cuts Named bs)
+    (λ t front is. nil_after (λ o front. SpellsOperand form.Test m o front) (decide t) front (subst (λ w. SpellsOperand form.Test m (decide t) w) (sym is.2) (test_spelled (Named, refl, is.1)))) (λ t front is. tt)
+operand_cuts form.WideTest m bs = then_cut (IsTest Wide) (λ o front. SpellsOperand form.WideTest m o front) bs (test_at Wide bs) _ (test_takes Wide bs) (test_cuts Wide bs)
+    (λ t front is. nil_after (λ o front. SpellsOperand form.WideTest m o front) (decide t) front (subst (λ w. SpellsOperand form.WideTest m (decide t) w) (sym is.2) (test_spelled (Wide, refl, is.1)))) (λ t front is. tt)
 operand_cuts (form.Text c usual) m bs = then_cut (λ d front. Delimits m usual d front) (λ o front. SpellsOperand (form.Text c usual) m o front) bs (delimiter_at m usual bs) _ (delimiter_takes m.at m.colons usual bs) (delimiter_cuts m.at m.colons usual bs)
     (λ d front is. (step (text c []), d ∷ [], text_spelled d front (d ∷ []) is (tt, refl) refl))
     (λ d front is. then_cut (λ t front. TextUpTo d.0 t front) (λ o back. SpellsOperand (form.Text c usual) m o (front ++ back)) d.1 (text_at d.0 d.1) _ (text_takes d.0 d.1) (text_cuts d.0 d.1)
@@ -135,7 +144,8 @@ some_operand (form.Mark c) m e = (mark c, [], mark_spelled)
 some_operand form.Escape m e = (escape, [], escape_spelled)
 some_operand (form.Register c) m e = (step (register c 0), 65 ∷ [], register_spelled refl)
 some_operand form.Byte m e = (step (byte 0), 0 ∷ [], byte_spelled)
-some_operand form.Test m e = (decide tests.Letter, 65 ∷ [], test_spelled refl)
+some_operand form.Test m e = (decide tests.Letter, 65 ∷ [], test_spelled (Named, refl, a_letter Named))
+some_operand form.WideTest m e = (decide tests.Letter, 65 ∷ [], test_spelled (Wide, refl, a_letter Wide))
 some_operand (form.Text c usual) m e = let d = some_delimiter m.at m.colons usual in (step (text c []), d.1 ++ (d.0 ∷ []), text_spelled d.0 d.1 (d.0 ∷ []) d.2 (tt, refl) refl)
 some_operand form.Tag m e = (tag [], 33 ∷ [], tag_spelled (tt, refl))
 some_operand form.SetText m e = let d = some_delimiter m.at m.colons 27 in (step (set_text 0 []), 65 ∷ (d.1 ++ (d.0 ∷ [])), set_text_spelled 65 d.0 d.1 (d.0 ∷ []) refl d.2 (tt, refl) refl)

@@ -6,14 +6,16 @@ use Rattle.teco_core.specs.Refusal.{◌>>=◌}
 use Rattle.teco_core.specs.Register.{register_of}
 use Rattle.teco_scan.specs.declared.command.Modifiers.{Modifiers}
 use Rattle.teco_scan.specs.declared.command.Row.{Row}
+use Rattle.teco_scan.specs.declared.profile.Profile.{Profile}
+use Rattle.teco_scan.specs.declared.profile.Profile.TheVariants.{Named, Wide}
 use Rattle.teco_scan.specs.declared.command.Form.{Form}
 use Rattle.teco_scan.specs.declared.command.Form.TheVariants as form
 use Rattle.teco_scan.specs.declared.command.Test.{Test}
 use Rattle.teco_scan.specs.Table.{is_alone, is_table}
 use Rattle.teco_scan.specs.Scan.{Reading, digits, Instruction, step, or_else, test_of, byte_at, register_at, test_at, delimiter_at, text_at, operand_at, modifiers_at, row_at, is_cut, command_at, of_row, begins_run, run_of, after_run, token_from, no_modifiers}
-use Rattle.teco_scan.specs.Spelling.{Marks, BeginsWithRow, NeedsRegister, LacksRegister, LacksTest, LacksRegisterExactly, LacksTestExactly, IsFaultOfFour}
+use Rattle.teco_scan.specs.Spelling.{test_form, Marks, BeginsWithRow, NeedsRegister, LacksRegister, LacksTest, LacksRegisterExactly, LacksTestExactly, IsFaultOfFour}
 use Rattle.teco_scan.proofs.IsSpelled.{Takes, marks_take, TakesRow, row_takes}
-use Rattle.teco_scan.proofs.IsLongest.{finished, Reached, Finds, finds}
+use Rattle.teco_scan.proofs.IsLongest.{finished, Reached, Finds, finds, not_alone_test}
 
 -- the fault, if one was read, is such
 abbrev pub Faults : {A : Type 0} → (Code → Type 0) → Reading A → Type 0
@@ -53,8 +55,8 @@ text_faults F d (b ∷ bs) cut = elim (eqb b d) as (λ v. Faults F (cond v (Ok (
 abbrev pub NamesNoRegister : List ℕ → Type 0
 NamesNoRegister bs = (b : ℕ) × (rest : List ℕ) × (bs ≡ b ∷ rest) × (register_of b ≡ None)
 
-abbrev pub NamesNoTest : List ℕ → Type 0
-NamesNoTest bs = (b : ℕ) × (rest : List ℕ) × (bs ≡ b ∷ rest) × (test_of b ≡ None)
+abbrev pub NamesNoTest : Profile → List ℕ → Type 0
+NamesNoTest p bs = (b : ℕ) × (rest : List ℕ) × (bs ≡ b ∷ rest) × (test_of p b ≡ None)
 
 register_faults : (F : Code → Type 0) (bs : List ℕ) → F Utc → (NamesNoRegister bs → F Iqn) → Faults F (register_at bs)
 unfolding register_at byte_at
@@ -65,12 +67,12 @@ register_faults F (b ∷ bs) cut lacks = here (register_of b) refl
     here None e = lacks (b, bs, refl, e)
     here (Some q) e = tt
 
-test_faults : (F : Code → Type 0) (bs : List ℕ) → F Utc → (NamesNoTest bs → F Iqc) → Faults F (test_at bs)
+test_faults : (p : Profile) (F : Code → Type 0) (bs : List ℕ) → F Utc → (NamesNoTest p bs → F Iqc) → Faults F (test_at p bs)
 unfolding test_at byte_at
-test_faults F [] cut lacks = cut
-test_faults F (b ∷ bs) cut lacks = here (test_of b) refl
+test_faults p F [] cut lacks = cut
+test_faults p F (b ∷ bs) cut lacks = here (test_of p b) refl
   where
-    here : (o : Option Test) → test_of b ≡ o → Faults F (or_else o Iqc >>= (λ q. Ok (q, bs)))
+    here : (o : Option Test) → test_of p b ≡ o → Faults F (or_else o Iqc >>= (λ q. Ok (q, bs)))
     here None e = lacks (b, bs, refl, e)
     here (Some q) e = tt
 
@@ -78,7 +80,7 @@ test_faults F (b ∷ bs) cut lacks = here (test_of b) refl
 abbrev pub OperandFault : Form → List ℕ → Code → Type 0
 OperandFault f bs Utc = Unit {0}
 OperandFault f bs Iqn = NeedsRegister f × NamesNoRegister bs
-OperandFault f bs Iqc = (f ≡ form.Test) × NamesNoTest bs
+OperandFault f bs Iqc = (p : Profile) × (f ≡ test_form p) × NamesNoTest p bs
 OperandFault f bs Ill = f ≡ form.Refused
 OperandFault f bs c = ⊥
 
@@ -89,7 +91,8 @@ operand_faults (form.Mark c) m bs = tt
 operand_faults form.Escape m bs = tt
 operand_faults (form.Register c) m bs = then_faults (OperandFault (form.Register c) bs) (register_at bs) _ (register_faults (OperandFault (form.Register c) bs) bs tt (λ lacks. (tt, lacks))) (λ x. tt)
 operand_faults form.Byte m bs = then_faults (OperandFault form.Byte bs) (byte_at bs) _ (byte_faults (OperandFault form.Byte bs) bs tt) (λ x. tt)
-operand_faults form.Test m bs = then_faults (OperandFault form.Test bs) (test_at bs) _ (test_faults (OperandFault form.Test bs) bs tt (λ lacks. (refl, lacks))) (λ x. tt)
+operand_faults form.Test m bs = then_faults (OperandFault form.Test bs) (test_at Named bs) _ (test_faults Named (OperandFault form.Test bs) bs tt (λ lacks. (Named, refl, lacks))) (λ x. tt)
+operand_faults form.WideTest m bs = then_faults (OperandFault form.WideTest bs) (test_at Wide bs) _ (test_faults Wide (OperandFault form.WideTest bs) bs tt (λ lacks. (Wide, refl, lacks))) (λ x. tt)
 operand_faults (form.Text c usual) m bs = then_faults (OperandFault (form.Text c usual) bs) (delimiter_at m usual bs) _ (delimiter_faults (OperandFault (form.Text c usual) bs) m.at m.colons usual bs tt)
     (λ d. then_faults (OperandFault (form.Text c usual) bs) (text_at d.0 d.1) _ (text_faults (OperandFault (form.Text c usual) bs) d.0 d.1 tt) (λ t. tt))
 operand_faults form.Tag m bs = then_faults (OperandFault form.Tag bs) (text_at 33 bs) _ (text_faults (OperandFault form.Tag bs) 33 bs tt) (λ t. tt)
@@ -143,7 +146,7 @@ command_faults rows m marks bs whole marked is = here (row_at rows m bs) (row_ta
     said : (x : Row × List ℕ) → TakesRow rows m bs (Some x) → (c : Code) → OperandFault x.0.form x.1 c → TokenFault rows whole c
     said x t Utc h = tt
     said x t Iqn h = (x.0, m, h.1.0, h.1.1, stands x t (h.1.0 ∷ h.1.1) h.1.2, h.0, h.1.3)
-    said x t Iqc h = (x.0, m, h.1.0, h.1.1, stands x t (h.1.0 ∷ h.1.1) h.1.2, h.0, h.1.3)
+    said x t Iqc h = (x.0, m, h.2.0, h.2.1, stands x t (h.2.0 ∷ h.2.1) h.2.2, h.0, h.1, h.2.3)
     said x t Ill h = tt
     said x t c h = absurd h
 
@@ -181,6 +184,7 @@ not_alone_register (form.Mark c) h e = absurd h
 not_alone_register form.Escape h e = absurd h
 not_alone_register form.Byte h e = absurd h
 not_alone_register form.Test h e = absurd h
+not_alone_register form.WideTest h e = absurd h
 not_alone_register (form.Text c d) h e = absurd h
 not_alone_register form.Tag h e = absurd h
 not_alone_register form.Replace h e = absurd h
@@ -195,14 +199,16 @@ no_register_read (form.Mark c) m b rest h e = absurd h
 no_register_read form.Escape m b rest h e = absurd h
 no_register_read form.Byte m b rest h e = absurd h
 no_register_read form.Test m b rest h e = absurd h
+no_register_read form.WideTest m b rest h e = absurd h
 no_register_read (form.Text c d) m b rest h e = absurd h
 no_register_read form.Tag m b rest h e = absurd h
 no_register_read form.Replace m b rest h e = absurd h
 no_register_read form.Refused m b rest h e = absurd h
 
-no_test_read : (m : Modifiers) (b : ℕ) (rest : List ℕ) → test_of b ≡ None → operand_at form.Test m (b ∷ rest) ≡ Err Iqc
+no_test_read : (p : Profile) (m : Modifiers) (b : ℕ) (rest : List ℕ) → test_of p b ≡ None → operand_at (test_form p) m (b ∷ rest) ≡ Err Iqc
 unfolding operand_at test_at byte_at
-no_test_read m b rest e = rw e
+no_test_read Named m b rest e = rw e
+no_test_read Wide m b rest e = rw e
 
 -- where more than a name is looked for no longer name is there
 found_itself : {rows : List Row} {row : Row} {m : Modifiers} {bs behind : List ℕ} → (is_alone row.form ≡ true → ⊥) → (found : Finds rows row m bs behind) → token_from rows bs ≡ (operand_at row.form m behind >>= finished m)
@@ -223,5 +229,5 @@ test_exactly rows table bs = (this_fault (TokenFault rows bs) (token_from rows b
   where
     back : LacksTest rows bs → token_from rows bs ≡ Err Iqc
     back h =
-        let more : is_alone h.0.form ≡ true → ⊥ = λ e. let wrong : is_alone form.Test ≡ true = subst (λ f. is_alone f ≡ true) h.5 e in cc in
-        found_itself more (finds rows table h.4) ∙ ap (λ f. operand_at f h.1 (h.2 ∷ h.3) >>= finished h.1) h.5 ∙ ap (λ r. r >>= finished h.1) (no_test_read h.1 h.2 h.3 h.6)
+        let more : is_alone h.0.form ≡ true → ⊥ = λ e. not_alone_test h.5 (subst (λ f. is_alone f ≡ true) h.6 e) in
+        found_itself more (finds rows table h.4) ∙ ap (λ f. operand_at f h.1 (h.2 ∷ h.3) >>= finished h.1) h.6 ∙ ap (λ r. r >>= finished h.1) (no_test_read h.5 h.1 h.2 h.3 h.7)

@@ -9,6 +9,8 @@ use Rattle.teco_core.specs.Refusal.{◌>>=◌}
 use Rattle.teco_core.specs.Ascii.{is_digit, upper}
 use Rattle.teco_core.specs.Register.{register_of}
 use Rattle.teco_scan.specs.declared.command.Row.{Row}
+use Rattle.teco_scan.specs.declared.profile.Profile.{Profile}
+use Rattle.teco_scan.specs.declared.profile.Profile.TheVariants.{Named, Wide}
 use Rattle.teco_scan.specs.declared.command.Modifiers.{Modifiers}
 use Rattle.teco_scan.specs.declared.command.Name.{Name}
 use Rattle.teco_scan.specs.declared.command.Form.{Form}
@@ -16,7 +18,7 @@ use Rattle.teco_scan.specs.declared.command.Form.TheVariants as form
 use Rattle.teco_scan.specs.declared.command.Test.{Test}
 use Rattle.teco_scan.specs.Table.{meets, is_table}
 use Rattle.teco_scan.specs.Scan.{Reading, or_else, Instruction, TokenMeaning, test_of, byte_at, register_at, test_at, delimiter_at, text_at, operand_at, is_refused, admits, after_name, ends_inside, is_cut, row_at, of_row, command_at, begins_run, token_from, no_modifiers}
-use Rattle.teco_scan.specs.Spelling.{Marks, no_mark, at_mark, colon_mark, SpellsName, one_spelled, two_spelled, three_spelled, control_spelled, caret_spelled, SpellsOperand, bare_spelled, mark_spelled, escape_spelled, register_spelled, byte_spelled, test_spelled, text_spelled, tag_spelled, set_text_spelled, replace_spelled, Among, BeginsWithRow, Spells, run_spelled, command_spelled, IsFront}
+use Rattle.teco_scan.specs.Spelling.{test_form, Marks, no_mark, at_mark, colon_mark, SpellsName, one_spelled, two_spelled, three_spelled, control_spelled, caret_spelled, SpellsOperand, bare_spelled, mark_spelled, escape_spelled, register_spelled, byte_spelled, test_spelled, text_spelled, tag_spelled, set_text_spelled, replace_spelled, Among, BeginsWithRow, Spells, run_spelled, command_spelled, IsFront}
 use Rattle.teco_scan.proofs.IsSpelled.{append_nil, TakesRow, row_takes, name_long}
 use Rattle.teco_scan.proofs.SpelledReads.{both, IsName, NoMark, operand_again, name_again, meet, more_bytes, named_well, apart}
 use Rattle.teco_scan.proofs.IsLongest.{name_start, finished, read_behind, IsLongerThan, longer_is, Reached, Finds, finds, alone_empty, alone_read}
@@ -56,11 +58,11 @@ register_extends [] more = λ uncut. absurd (uncut refl)
 register_extends (b ∷ bs) more =
     elim (register_of b) as (λ (o : Option ℕ). Extends more (or_else o Iqn >>= (λ q. Ok (q, bs))) (or_else o Iqn >>= (λ q. Ok (q, bs ++ more)))) [ None ↦ λ uncut. refl | Some q ↦ refl ]
 
-test_extends : (bs more : List ℕ) → Extends more (test_at bs) (test_at (bs ++ more))
+test_extends : (p : Profile) (bs more : List ℕ) → Extends more (test_at p bs) (test_at p (bs ++ more))
 unfolding test_at byte_at
-test_extends [] more = λ uncut. absurd (uncut refl)
-test_extends (b ∷ bs) more =
-    elim (test_of b) as (λ (o : Option Test). Extends more (or_else o Iqc >>= (λ q. Ok (q, bs))) (or_else o Iqc >>= (λ q. Ok (q, bs ++ more)))) [ None ↦ λ uncut. refl | Some q ↦ refl ]
+test_extends p [] more = λ uncut. absurd (uncut refl)
+test_extends p (b ∷ bs) more =
+    elim (test_of p b) as (λ (o : Option Test). Extends more (or_else o Iqc >>= (λ q. Ok (q, bs))) (or_else o Iqc >>= (λ q. Ok (q, bs ++ more)))) [ None ↦ λ uncut. refl | Some q ↦ refl ]
 
 operand_extends : (f : Form) (m : Modifiers) (bs more : List ℕ) → Extends more (operand_at f m bs) (operand_at f m (bs ++ more))
 unfolding operand_at
@@ -69,7 +71,8 @@ operand_extends (form.Mark c) m bs more = refl
 operand_extends form.Escape m bs more = refl
 operand_extends (form.Register c) m bs more = then_extends more (register_at bs) (register_at (bs ++ more)) _ (register_extends bs more) (λ x rest. refl)
 operand_extends form.Byte m bs more = then_extends more (byte_at bs) (byte_at (bs ++ more)) _ (byte_extends bs more) (λ x rest. refl)
-operand_extends form.Test m bs more = then_extends more (test_at bs) (test_at (bs ++ more)) _ (test_extends bs more) (λ x rest. refl)
+operand_extends form.Test m bs more = then_extends more (test_at Named bs) (test_at Named (bs ++ more)) _ (test_extends Named bs more) (λ x rest. refl)
+operand_extends form.WideTest m bs more = then_extends more (test_at Wide bs) (test_at Wide (bs ++ more)) _ (test_extends Wide bs more) (λ x rest. refl)
 operand_extends (form.Text c usual) m bs more = then_extends more (delimiter_at m usual bs) (delimiter_at m usual (bs ++ more)) _ (delimiter_extends m.at m.colons usual bs more)
     (λ d rest. then_extends more (text_at d rest) (text_at d (rest ++ more)) _ (text_extends d rest more) (λ x rest. refl))
 operand_extends form.Tag m bs more = then_extends more (text_at 33 bs) (text_at 33 (bs ++ more)) _ (text_extends 33 bs more) (λ x rest. refl)
@@ -170,7 +173,7 @@ not_refused mark_spelled = refl
 not_refused escape_spelled = refl
 not_refused (register_spelled h) = refl
 not_refused byte_spelled = refl
-not_refused (test_spelled h) = refl
+not_refused (test_spelled h) = ap is_refused h.1 ∙ elim h.0 as (λ (p : Profile). is_refused (test_form p) ≡ false) [ Named ↦ refl | Wide ↦ refl ]
 not_refused (text_spelled d front back h k w) = refl
 not_refused (tag_spelled h) = refl
 not_refused (set_text_spelled b d front back g h k w) = refl

@@ -7,13 +7,15 @@ use Rattle.teco_core.specs.Refusal.{◌>>=◌}
 use Rattle.teco_core.specs.Ascii.{is_digit, upper}
 use Rattle.teco_core.specs.declared.code.Code.TheVariants.{Ill}
 use Rattle.teco_scan.specs.declared.command.Row.{Row}
+use Rattle.teco_scan.specs.declared.profile.Profile.{Profile}
+use Rattle.teco_scan.specs.declared.profile.Profile.TheVariants.{Named, Wide}
 use Rattle.teco_scan.specs.declared.command.Modifiers.{Modifiers}
 use Rattle.teco_scan.specs.declared.command.Name.{Name}
 use Rattle.teco_scan.specs.declared.command.Form.{Form}
 use Rattle.teco_scan.specs.declared.command.Form.TheVariants as form
 use Rattle.teco_scan.specs.Table.{is_not_lower, is_first_letter, is_name, meets, is_alone, has_more_letters, is_longer, is_apart, is_table}
 use Rattle.teco_scan.specs.Scan.{Reading, Instruction, TokenMeaning, is_refused, admits, after_name, row_at, at_row, of_row, command_at, operand_at, modifiers_at, begins_run, after_run, token_from, no_modifiers}
-use Rattle.teco_scan.specs.Spelling.{Marks, no_mark, at_mark, colon_mark, SpellsName, one_spelled, two_spelled, three_spelled, control_spelled, caret_spelled, SpellsOperand, bare_spelled, mark_spelled, escape_spelled, register_spelled, byte_spelled, test_spelled, text_spelled, tag_spelled, set_text_spelled, replace_spelled, Among, BeginsWithRow, run_spelled, command_spelled, IsRefused, LeavesAtMost, IsLongest}
+use Rattle.teco_scan.specs.Spelling.{test_form, Marks, no_mark, at_mark, colon_mark, SpellsName, one_spelled, two_spelled, three_spelled, control_spelled, caret_spelled, SpellsOperand, bare_spelled, mark_spelled, escape_spelled, register_spelled, byte_spelled, test_spelled, text_spelled, tag_spelled, set_text_spelled, replace_spelled, Among, BeginsWithRow, run_spelled, command_spelled, IsRefused, LeavesAtMost, IsLongest}
 use Rattle.teco_scan.proofs.IsSpelled.{TakesSome, name_takes, TakesRow, row_takes}
 use Rattle.teco_scan.proofs.SpelledReads.{both, each, IsName, NoMark, marks_again, operand_again, name_again, meet, more_bytes, one_of, named_well}
 
@@ -149,6 +151,11 @@ finds rows table {row = row} {m = m} {bs = bs} {behind = behind} stands =
         let is : IsLongerThan x.0 row = longer_is x.0 row long in
         inr (is, omega (arith, more_bytes is.letters taken.2.1 stands.named, ap length taken.2.2, length-append stands.name behind, length-append taken.2.0 x.1))
 
+-- a test follows its name
+pub not_alone_test : (p : Profile) → is_alone (test_form p) ≡ true → ⊥
+not_alone_test Named e = cc
+not_alone_test Wide e = cc
+
 -- where nothing follows the name nothing is spelled
 pub alone_empty : {f : Form} {m : Modifiers} {o : Instruction} {bs : List ℕ} → SpellsOperand f m o bs → is_alone f ≡ true → bs ≡ []
 alone_empty bare_spelled e = refl
@@ -156,7 +163,7 @@ alone_empty mark_spelled e = refl
 alone_empty escape_spelled e = refl
 alone_empty (register_spelled h) e = absurd cc
 alone_empty byte_spelled e = absurd cc
-alone_empty (test_spelled h) e = absurd cc
+alone_empty (test_spelled h) e = absurd (not_alone_test h.0 (subst (λ (f : Form). is_alone f ≡ true) h.1 e))
 alone_empty (text_spelled d front back h k w) e = absurd cc
 alone_empty (tag_spelled h) e = absurd cc
 alone_empty (set_text_spelled b d front back g h k w) e = absurd cc
@@ -171,6 +178,7 @@ alone_read form.Escape m bs e = inl (_, refl)
 alone_read (form.Register c) m bs e = absurd cc
 alone_read form.Byte m bs e = absurd cc
 alone_read form.Test m bs e = absurd cc
+alone_read form.WideTest m bs e = absurd cc
 alone_read (form.Text c d) m bs e = absurd cc
 alone_read form.Tag m bs e = absurd cc
 alone_read form.SetText m bs e = absurd cc
@@ -237,6 +245,7 @@ refused_form form.Escape e = absurd cc
 refused_form (form.Register c) e = absurd cc
 refused_form form.Byte e = absurd cc
 refused_form form.Test e = absurd cc
+refused_form form.WideTest e = absurd cc
 refused_form (form.Text c d) e = absurd cc
 refused_form form.Tag e = absurd cc
 refused_form form.SetText e = absurd cc

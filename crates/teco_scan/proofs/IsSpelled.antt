@@ -9,6 +9,8 @@ use Rattle.teco_core.specs.Ascii.{is_digit, upper}
 use Rattle.teco_core.specs.Register.{register_of}
 use Rattle.teco_scan.specs.declared.command.Modifiers.{Modifiers}
 use Rattle.teco_scan.specs.declared.command.Row.{Row}
+use Rattle.teco_scan.specs.declared.profile.Profile.{Profile}
+use Rattle.teco_scan.specs.declared.profile.Profile.TheVariants.{Named, Wide}
 use Rattle.teco_scan.specs.declared.command.Name.{Name}
 use Rattle.teco_scan.specs.declared.command.Name.TheVariants.{One, Two, Three, Control}
 use Rattle.teco_scan.specs.declared.command.Form.{Form}
@@ -63,16 +65,16 @@ pub register_takes : (bs : List ℕ) → Takes IsRegister bs (register_at bs)
 unfolding register_at
 register_takes bs = then IsByte IsRegister bs (byte_at bs) _ (byte_takes bs) (λ b front is. register_here b.0 b.1 front (register_of b.0) refl is)
 
-abbrev pub IsTest : Test → List ℕ → Type 0
-IsTest t bs = (b : ℕ) × (test_of b ≡ Some t) × (bs ≡ b ∷ [])
+abbrev pub IsTest : Profile → Test → List ℕ → Type 0
+IsTest p t bs = (b : ℕ) × (test_of p b ≡ Some t) × (bs ≡ b ∷ [])
 
-test_here : (b : ℕ) (rest front : List ℕ) (o : Option Test) → test_of b ≡ o → front ≡ b ∷ [] → Takes (λ q back. IsTest q (front ++ back)) rest (or_else o Iqc >>= (λ q. Ok (q, rest)))
-test_here b rest front None e is = tt
-test_here b rest front (Some q) e is = now IsTest q rest front (b, e, is)
+test_here : (p : Profile) (b : ℕ) (rest front : List ℕ) (o : Option Test) → test_of p b ≡ o → front ≡ b ∷ [] → Takes (λ q back. IsTest p q (front ++ back)) rest (or_else o Iqc >>= (λ q. Ok (q, rest)))
+test_here p b rest front None e is = tt
+test_here p b rest front (Some q) e is = now (IsTest p) q rest front (b, e, is)
 
-pub test_takes : (bs : List ℕ) → Takes IsTest bs (test_at bs)
+pub test_takes : (p : Profile) (bs : List ℕ) → Takes (IsTest p) bs (test_at p bs)
 unfolding test_at
-test_takes bs = then IsByte IsTest bs (byte_at bs) _ (byte_takes bs) (λ b front is. test_here b.0 b.1 front (test_of b.0) refl is)
+test_takes p bs = then IsByte (IsTest p) bs (byte_at bs) _ (byte_takes bs) (λ b front is. test_here p b.0 b.1 front (test_of p b.0) refl is)
 
 pub delimiter_takes : (a : Bool) (n usual : ℕ) (bs : List ℕ) → Takes (λ d front. Delimits (record { at = a; colons = n }) usual d front) bs (delimiter_at (record { at = a; colons = n }) usual bs)
 unfolding delimiter_at
@@ -102,8 +104,10 @@ operand_takes (form.Register c) m bs = then IsRegister (λ o front. SpellsOperan
     (λ q front is. now (λ o front. SpellsOperand (form.Register c) m o front) (step (register c q.0)) q.1 front (subst (λ w. SpellsOperand (form.Register c) m (step (register c q.0)) w) (sym is.2) (register_spelled is.1)))
 operand_takes form.Byte m bs = then IsByte (λ o front. SpellsOperand form.Byte m o front) bs (byte_at bs) _ (byte_takes bs)
     (λ b front is. now (λ o front. SpellsOperand form.Byte m o front) (step (byte b.0)) b.1 front (subst (λ w. SpellsOperand form.Byte m (step (byte b.0)) w) (sym is) byte_spelled))
-operand_takes form.Test m bs = then IsTest (λ o front. SpellsOperand form.Test m o front) bs (test_at bs) _ (test_takes bs)
-    (λ t front is. now (λ o front. SpellsOperand form.Test m o front) (decide t.0) t.1 front (subst (λ w. SpellsOperand form.Test m (decide t.0) w) (sym is.2) (test_spelled is.1)))
+operand_takes form.Test m bs = then (IsTest Named) (λ o front. SpellsOperand form.Test m o front) bs (test_at Named bs) _ (test_takes Named bs)
+    (λ t front is. now (λ o front. SpellsOperand form.Test m o front) (decide t.0) t.1 front (subst (λ w. SpellsOperand form.Test m (decide t.0) w) (sym is.2) (test_spelled (Named, refl, is.1))))
+operand_takes form.WideTest m bs = then (IsTest Wide) (λ o front. SpellsOperand form.WideTest m o front) bs (test_at Wide bs) _ (test_takes Wide bs)
+    (λ t front is. now (λ o front. SpellsOperand form.WideTest m o front) (decide t.0) t.1 front (subst (λ w. SpellsOperand form.WideTest m (decide t.0) w) (sym is.2) (test_spelled (Wide, refl, is.1))))
 operand_takes (form.Text c usual) m bs = then (λ d front. Delimits m usual d front) (λ o front. SpellsOperand (form.Text c usual) m o front) bs (delimiter_at m usual bs) _ (delimiter_takes m.at m.colons usual bs)
     (λ d front is. then (λ t front. TextUpTo d.0 t front) (λ o back. SpellsOperand (form.Text c usual) m o (front ++ back)) d.1 (text_at d.0 d.1) _ (text_takes d.0 d.1)
     (λ t back ends. now (λ o back. SpellsOperand (form.Text c usual) m o (front ++ back)) (step (text c t.0)) t.1 back (text_spelled d.0 front back is ends refl)))

@@ -12,6 +12,8 @@ pub mod TokenShortens
 pub mod Written
 pub mod Determined
 pub mod FirstRow
+pub mod Wider
+pub mod WideAdds
 pub mod ScanFaults
 pub mod LastBytes
 pub mod BlockRows

@@ -77,7 +77,7 @@ digit_passed b bs e =
     record { closes = λ k d. first.closes k d ∙ rest.closes k d; finds = λ name d. first.finds name d ∙ rest.finds name d }
 
 lone_scan : (b : ℕ) (bs : List ℕ) (f : Form) → is_filler b ≡ false → is_digit b ≡ false → named_at ROWS (b ∷ bs) ≡ Ok ((no_modifiers, f), bs) → scan (b ∷ bs) ≡ scanned (with_operand (Ok ((no_modifiers, f), bs)))
-lone_scan b bs f filler digit named = scan_first b bs filler ∙ ap scanned (token_named (b ∷ bs) digit ∙ ap with_operand named)
+lone_scan b bs f filler digit named = scan_first b bs filler ∙ ap scanned (token_named ROWS (b ∷ bs) digit ∙ ap with_operand named)
 
 -- a command that is one byte, and has nothing after that
 pub bare_passed : (b : ℕ) (bs : List ℕ) (f : Form) (c : Bare) → is_filler b ≡ false → is_digit b ≡ false → named_at ROWS (b ∷ bs) ≡ Ok ((no_modifiers, f), bs) → f ≡ form.Bare c → AreAlike (b ∷ bs) bs

@@ -7,12 +7,14 @@ use Rattle.teco_core.specs.Ascii.{upper}
 use Rattle.teco_core.specs.Register.{register_of}
 use Rattle.teco_scan.specs.declared.command.Modifiers.{Modifiers}
 use Rattle.teco_scan.specs.declared.command.Row.{Row}
+use Rattle.teco_scan.specs.declared.profile.Profile.{Profile}
+use Rattle.teco_scan.specs.declared.profile.Profile.TheVariants.{Named, Wide}
 use Rattle.teco_scan.specs.declared.command.Name.{Name}
 use Rattle.teco_scan.specs.declared.command.Name.TheVariants.{One, Two, Three, Control}
 use Rattle.teco_scan.specs.declared.command.Form.{Form}
-use Rattle.teco_scan.specs.Scan.{Instruction, test_of, byte_at, register_at, test_at, delimiter_at, text_at, operand_at, modifiers_at, after_letter, after_name}
+use Rattle.teco_scan.specs.Scan.{Instruction, decide, test_of, byte_at, register_at, test_at, delimiter_at, text_at, operand_at, modifiers_at, after_letter, after_name}
 use Rattle.teco_scan.specs.Table.{is_name, lower, first_bytes, begins_with, meets, has_more_letters, is_longer, is_apart, is_table}
-use Rattle.teco_scan.specs.Spelling.{Marks, no_mark, at_mark, colon_mark, SpellsName, one_spelled, two_spelled, three_spelled, control_spelled, caret_spelled, Delimits, TextUpTo, SpellsOperand, bare_spelled, mark_spelled, escape_spelled, register_spelled, byte_spelled, test_spelled, text_spelled, tag_spelled, set_text_spelled, replace_spelled, Among}
+use Rattle.teco_scan.specs.Spelling.{test_form, Marks, no_mark, at_mark, colon_mark, SpellsName, one_spelled, two_spelled, three_spelled, control_spelled, caret_spelled, Delimits, TextUpTo, SpellsOperand, bare_spelled, mark_spelled, escape_spelled, register_spelled, byte_spelled, test_spelled, text_spelled, tag_spelled, set_text_spelled, replace_spelled, Among}
 
 free_text : (d : ℕ) (t rest : List ℕ) → AllByRecursion (λ b. b ≢ d) t → text_at d (t ++ (d ∷ rest)) ≡ Ok (t, rest)
 unfolding text_at
@@ -34,9 +36,14 @@ register_again : (b : ℕ) (rest : List ℕ) {q : _} → register_of b ≡ Some 
 unfolding register_at byte_at
 register_again b rest e = rw e
 
-test_again : (b : ℕ) (rest : List ℕ) {q : _} → test_of b ≡ Some q → test_at (b ∷ rest) ≡ Ok (q, rest)
+test_again : (p : Profile) (b : ℕ) (rest : List ℕ) {q : _} → test_of p b ≡ Some q → test_at p (b ∷ rest) ≡ Ok (q, rest)
 unfolding test_at byte_at
-test_again b rest e = rw e
+test_again p b rest e = rw e
+
+test_operand : (p : Profile) (m : Modifiers) (b : ℕ) (rest : List ℕ) {q : _} → test_of p b ≡ Some q → operand_at (test_form p) m (b ∷ rest) ≡ Ok (decide q, rest)
+unfolding operand_at
+test_operand Named m b rest e = rw (test_again Named b rest e)
+test_operand Wide m b rest e = rw (test_again Wide b rest e)
 
 -- an operand that is spelled is read, whatever follows it
 pub operand_again : {f : Form} {m : Modifiers} {o : Instruction} {bs : List ℕ} → SpellsOperand f m o bs → (rest : List ℕ) → operand_at f m (bs ++ rest) ≡ Ok (o, rest)
@@ -46,7 +53,7 @@ operand_again mark_spelled rest = refl
 operand_again escape_spelled rest = refl
 operand_again (register_spelled {b = b} e) rest = rw (register_again b rest e)
 operand_again byte_spelled rest = refl
-operand_again (test_spelled {b = b} e) rest = rw (test_again b rest e)
+operand_again {m = m} (test_spelled {b = b} e) rest = ap (λ (f : Form). operand_at f m (b ∷ rest)) e.1 ∙ test_operand e.0 m b rest e.2
 operand_again {m = m} (text_spelled {usual = usual} {t = t} d front back delimits ends whole) rest =
     let parts = ap (λ w. w ++ rest) whole ∙ append_assoc front back rest in
     rw (parts, delimiter_again m.at m.colons usual d front (back ++ rest) delimits, text_again d t back rest ends)
@@ -104,13 +111,13 @@ marks_again (colon_mark {m = m} {n = n} {bs = bs} few more) rest h =
 upper_cases : (b l : ℕ) → upper b ≡ l → (b ≡ l) ⊎ (b ≡ lower l)
 upper_cases b l e = grind arith
 
-any_here : (p : ℕ → Bool) (b c : ℕ) → p b ≡ true → list_any p (b ∷ c ∷ []) ≡ true
+pub any_here : (p : ℕ → Bool) (b c : ℕ) → p b ≡ true → list_any p (b ∷ c ∷ []) ≡ true
 any_here p b c e = rw e
 
-any_next : (p : ℕ → Bool) (b c : ℕ) → p c ≡ true → list_any p (b ∷ c ∷ []) ≡ true
+pub any_next : (p : ℕ → Bool) (b c : ℕ) → p c ≡ true → list_any p (b ∷ c ∷ []) ≡ true
 any_next p b c e = rw e (elim (p b) as (λ v. (v || true) ≡ true) [ true ↦ refl | false ↦ refl ])
 
-any_cased : (p : ℕ → Bool) (b l : ℕ) → upper b ≡ l → p b ≡ true → list_any p (l ∷ lower l ∷ []) ≡ true
+pub any_cased : (p : ℕ → Bool) (b l : ℕ) → upper b ≡ l → p b ≡ true → list_any p (l ∷ lower l ∷ []) ≡ true
 any_cased p b l e h = elim (upper_cases b l e) [ inl same ↦ any_here p l (lower l) (subst (λ w. p w ≡ true) same h) | inr more ↦ any_next p l (lower l) (subst (λ w. p w ≡ true) more h) ]
 
 -- the byte that bytes begin with

@@ -1,4 +1,5 @@
 -- How each command is written, by computing.
+use Rattle.teco_scan.specs.Wide.{WideSpellings}
 use Rattle.teco_scan.specs.Written.{NumbersAreSpelled, PlainCommandsAreSpelled, RegisterCommandsAreSpelled, TextCommandsAreSpelled, MarksAreSpelled, ModifiersAreAdmitted}
 use Rattle.teco_scan.proofs.Rows.{computing}
 
@@ -25,3 +26,7 @@ marks = search
 pub modifiers : ModifiersAreAdmitted
 unfolding computing
 modifiers = search
+
+pub wide_spellings : WideSpellings
+unfolding computing
+wide_spellings = search

@@ -9,7 +9,6 @@ use Rattle.teco_scan.specs.declared.command.Row.{Row}
 use Rattle.teco_scan.specs.declared.command.Name.{Name}
 use Rattle.teco_scan.specs.declared.command.Name.TheVariants.{One, Two, Three, Control}
 use Rattle.teco_scan.specs.declared.command.Form.{Form}
-use Rattle.teco_scan.specs.declared.table.TheConstants.{ROWS}
 use Rattle.teco_scan.specs.Scan.{Reading, TokenMeaning, no_modifiers, modifiers_at, operand_at, row_at, is_cut}
 use Rattle.teco_scan.specs.Table.{begins_with}
 use Prim.Native.Char.{code}
@@ -29,9 +28,9 @@ abbrev pub is_whole_first : List Row → ℕ → Bool
 is_whole_first [] b = true
 is_whole_first (r ∷ rows) b = is_whole r.name b
 
--- The byte leads to this row of the table: no row before it has a name that begins with the byte.
-abbrev pub picks : ℕ → ℕ → Bool
-picks n b = none_begins (take n ROWS) b && is_whole_first (drop n ROWS) b
+-- The byte leads to this row of a table: no row before it has a name that begins with the byte.
+abbrev pub picks : List Row → ℕ → ℕ → Bool
+picks rows n b = none_begins (take n rows) b && is_whole_first (drop n rows) b
 
 -- the form of the command by whose name the bytes begin, and the bytes after that
 abbrev pub form_of : List Row → Modifiers → List ℕ → Option (Row × List ℕ) → Reading Form

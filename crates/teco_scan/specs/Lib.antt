@@ -5,6 +5,7 @@ pub mod Spelling
 pub mod Seen
 pub mod Led
 pub mod Written
+pub mod Wide
 pub mod Closes
 pub mod Tree
 pub mod Skip

@@ -17,7 +17,9 @@ use Rattle.teco_scan.specs.declared.command.RegisterCommand.{RegisterCommand}
 use Rattle.teco_scan.specs.declared.command.TextCommand.{TextCommand}
 use Rattle.teco_scan.specs.declared.command.Test.{Test}
 use Rattle.teco_scan.specs.declared.command.Test.TheVariants as tests
-use Rattle.teco_scan.specs.declared.table.TheConstants.{ROWS}
+use Rattle.teco_scan.specs.declared.profile.Profile.{Profile}
+use Rattle.teco_scan.specs.declared.profile.Profile.TheVariants.{Named, Wide}
+use Rattle.teco_scan.specs.declared.table.TheConstants.{ROWS, WIDE_ROWS}
 use Prim.Native.Char.{code}
 use Rattle.teco_core.specs.declared.ascii.TheConstants.{ESC}
 
@@ -54,8 +56,8 @@ is_one_of [] b = false
 is_one_of (letter ∷ letters) b = (b == letter) || is_one_of letters b
 
 -- the test that a capital names
-abbrev pub test_named : ℕ → Option Test
-test_named b =
+abbrev pub letter_test : ℕ → Option Test
+letter_test b =
     if is_one_of (codes "EFU") b then Some tests.Zero
     else (if is_one_of (codes "N") b then Some tests.NotZero
     else (if is_one_of (codes "G") b then Some tests.Above
@@ -66,9 +68,26 @@ test_named b =
     else (if is_one_of (codes "V") b then Some tests.Lower
     else (if is_one_of (codes "W") b then Some tests.Upper else None))))))))
 
--- the test of a letter of either case
-unfoldable pub test_of : ℕ → Option Test
-test_of b = test_named (upper b)
+-- the test that a sign names
+abbrev pub sign_test : ℕ → Option Test
+sign_test b =
+    if b == code "=" then Some tests.Zero
+    else (if b == code "<" then Some tests.Below
+    else (if b == code ">" then Some tests.Above else None))
+
+-- a sign names one where no letter does
+abbrev pub or_sign : Option Test → ℕ → Option Test
+or_sign (Some t) b = Some t
+or_sign None b = sign_test b
+
+-- in Named a capital names a test, and in Wide a sign too
+abbrev pub test_named : Profile → ℕ → Option Test
+test_named Named b = letter_test b
+test_named Wide b = or_sign (letter_test b) b
+
+-- the test of a letter of either case, or of a sign
+unfoldable pub test_of : Profile → ℕ → Option Test
+test_of p b = test_named p (upper b)
 
 -- Operands. Where the bytes end before one does, the fault is UTC.
 unfoldable pub byte_at : List ℕ → Reading ℕ
@@ -87,10 +106,10 @@ register_at bs = do
   Ok (q, b.1)
 
 -- a byte that names no test is IQC
-unfoldable pub test_at : List ℕ → Reading Test
-test_at bs = do
+unfoldable pub test_at : Profile → List ℕ → Reading Test
+test_at p bs = do
   b ← byte_at bs
-  t ← or_else (test_of b.0) Iqc
+  t ← or_else (test_of p b.0) Iqc
   Ok (t, b.1)
 
 -- what ends a text: with @ the next byte, else the usual one
@@ -116,7 +135,10 @@ operand_at form.Byte m bs = do
   b ← byte_at bs
   Ok (step (byte b.0), b.1)
 operand_at form.Test m bs = do
-  t ← test_at bs
+  t ← test_at Named bs
+  Ok (decide t.0, t.1)
+operand_at form.WideTest m bs = do
+  t ← test_at Wide bs
   Ok (decide t.0, t.1)
 operand_at (form.Text c usual) m bs = do
   d ← delimiter_at m usual bs
@@ -241,10 +263,23 @@ unfoldable pub after_fillers : List ℕ → List ℕ
 after_fillers [] = []
 after_fillers (b ∷ bs) = if is_filler b then after_fillers bs else b ∷ bs
 
-abbrev pub scan_here : List ℕ → Scanned
-scan_here [] = ended
-scan_here (b ∷ bs) = scanned (token_from ROWS (b ∷ bs))
+-- the table of a profile
+abbrev pub rows_of : Profile → List Row
+rows_of Named = ROWS
+rows_of Wide = WIDE_ROWS
 
--- the first token of the bytes
+-- what is found where no filler is
+abbrev pub scan_here_by : Profile → List ℕ → Scanned
+scan_here_by p [] = ended
+scan_here_by p (b ∷ bs) = scanned (token_from (rows_of p) (b ∷ bs))
+
+-- the first token of the bytes, in a profile
+abbrev pub scan_by : Profile → List ℕ → Scanned
+scan_by p bs = scan_here_by p (after_fillers bs)
+
+-- The same in Named, which is meant wherever no profile is said.
+abbrev pub scan_here : List ℕ → Scanned
+scan_here = scan_here_by Named
+
 unfoldable pub scan : List ℕ → Scanned
-scan bs = scan_here (after_fillers bs)
+scan bs = scan_by Named bs

@@ -16,6 +16,8 @@ use Rattle.teco_scan.specs.declared.command.BlockMark.{BlockMark}
 use Rattle.teco_scan.specs.declared.command.RegisterCommand.{RegisterCommand}
 use Rattle.teco_scan.specs.declared.command.TextCommand.{TextCommand}
 use Rattle.teco_scan.specs.declared.command.Test.{Test}
+use Rattle.teco_scan.specs.declared.profile.Profile.{Profile}
+use Rattle.teco_scan.specs.declared.profile.Profile.TheVariants.{Named, Wide}
 use Rattle.teco_scan.specs.Scan.{digits, bare, register, byte, text, set_text, replace, Instruction, step, mark, decide, tag, escape, TokenMeaning, test_of, admits, no_modifiers, token_from, scan, scan_here}
 use Prim.Native.Char.{code}
 use Rattle.teco_core.specs.declared.ascii.TheConstants.{ESC}
@@ -45,6 +47,15 @@ Delimits m usual d bs = MatchBool m.at (bs ≡ d ∷ []) ((d ≡ usual) × (bs �
 abbrev pub TextUpTo : ℕ → List ℕ → List ℕ → Type 0
 TextUpTo d t bs = AllByRecursion (λ b. b ≢ d) t × (bs ≡ t ++ d ∷ [])
 
+-- the form that a test follows, in each profile
+abbrev pub test_form : Profile → Form
+test_form Named = form.Test
+test_form Wide = form.WideTest
+
+-- the form is that of the tests of a profile, in which the byte names this one
+abbrev pub NamesTest : Form → ℕ → Test → Type 0
+NamesTest f b t = (p : Profile) × (f ≡ test_form p) × (test_of p b ≡ Some t)
+
 -- what follows the name; a refused name has no rule
 pub data SpellsOperand : Form → Modifiers → Instruction → List ℕ → Type 0 where
   bare_spelled : {c : Bare} {m : Modifiers} → SpellsOperand (form.Bare c) m (step (bare c)) []
@@ -53,8 +64,8 @@ pub data SpellsOperand : Form → Modifiers → Instruction → List ℕ → Typ
   register_spelled : {c : RegisterCommand} {m : Modifiers} {b q : ℕ} → register_of b ≡ Some q
       → SpellsOperand (form.Register c) m (step (register c q)) (b ∷ [])
   byte_spelled : {m : Modifiers} {b : ℕ} → SpellsOperand form.Byte m (step (byte b)) (b ∷ [])
-  test_spelled : {m : Modifiers} {b : ℕ} {t : Test} → test_of b ≡ Some t
-      → SpellsOperand form.Test m (decide t) (b ∷ [])
+  test_spelled : {f : Form} {m : Modifiers} {b : ℕ} {t : Test} → NamesTest f b t
+      → SpellsOperand f m (decide t) (b ∷ [])
   text_spelled : {c : TextCommand} {usual : ℕ} {m : Modifiers} {t bs : List ℕ} (d : ℕ) (front back : List ℕ)
       → Delimits m usual d front → TextUpTo d t back → bs ≡ front ++ back
       → SpellsOperand (form.Text c usual) m (step (text c t)) bs
@@ -115,7 +126,7 @@ LacksRegister rows bs = (row : Row) × (m : Modifiers) × (b : ℕ) × (more : L
 -- the bytes fit a spelling up to its test, and the next one names none
 abbrev pub LacksTest : List Row → List ℕ → Type 0
 LacksTest rows bs = (row : Row) × (m : Modifiers) × (b : ℕ) × (more : List ℕ)
-    × BeginsWithRow rows row m bs (b ∷ more) × (row.form ≡ form.Test) × (test_of b ≡ None)
+    × BeginsWithRow rows row m bs (b ∷ more) × (p : Profile) × (row.form ≡ test_form p) × (test_of p b ≡ None)
 
 -- The laws of spelling, of bytes that begin with no filler. What is read is spelled so.
 abbrev pub IsSpelled : List Row → Type 0

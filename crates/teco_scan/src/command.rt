@@ -179,6 +179,8 @@ pub enum Form {
     Byte,
     /// The letter of a test.
     Test,
+    /// The letter of a test, or `=`, `<` or `>`.
+    WideTest,
     /// A text, up to this byte unless `@` comes before.
     Text(TextCommand, u8),
     /// The name of a tag, up to `!`.

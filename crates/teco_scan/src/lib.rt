@@ -8,6 +8,7 @@ mod gathering;
 mod leads;
 mod names;
 mod operand;
+mod profile;
 mod scan;
 mod stream;
 mod table;
@@ -24,10 +25,11 @@ pub use command::{
 pub use gathering::Tags;
 pub use leads::{
     bare_token, digits_token, end_found, escape_token, lead, mark_token, register_token,
-    replace_token, tag_token, test_token, text_token,
+    replace_token, tag_token, test_token, test_token_in, text_token,
 };
 pub use names::lone_form;
-pub use scan::{filler_end, spelling, token_at};
+pub use profile::Profile;
+pub use scan::{filler_end, spelling, token_at, token_in};
 pub use stream::{HistoryMove, asks_history, ends_in_escape, move_asked, pair_end};
-pub use table::ROWS;
+pub use table::{ROWS, WIDE_ROWS};
 pub use token::{Found, Item, Span, Token, TokenKind};

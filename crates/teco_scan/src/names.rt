@@ -1,12 +1,15 @@
 //! Reading a command's modifiers and its name.
 ghost use Rattle.std.specs.Prelude.{◌≡◌, ◌<◌, ◌≤◌, ℕ, List, ◌∷◌, length, take, drop, IfOk, IfSome, Ok, true};
-ghost use Rattle.teco_scan.specs.Scan.{no_modifiers, admits, is_refused, after_name, ends_inside, row_at, is_cut, after_letter, modifiers_at};
+ghost use Rattle.teco_scan.specs.Scan.{rows_of, no_modifiers, admits, is_refused, after_name, ends_inside, row_at, is_cut, after_letter, modifiers_at};
+ghost use Rattle.teco_scan.specs.Led.{form_in};
 ghost use Rattle.teco_scan.specs.declared.command.Modifiers.{Modifiers};
+ghost use Rattle.teco_scan.specs.declared.profile.Profile.{Profile};
 ghost use Rattle.teco_scan.specs.FirstRow.{form_at, named_at, picks};
 ghost use Rattle.teco_scan.specs.Seen.{Gives, GivesSome};
 
 use crate::command::{Form, Modifiers, Name, Row};
-use crate::table::{FIRST, NONE, ROWS};
+use crate::profile::Profile;
+use crate::table::{FIRST, NONE, ROWS, WIDE_ROWS};
 use teco_core::Code;
 
 /// At most one `@` and two colons, in any order.
@@ -162,7 +165,7 @@ fn is_cut(rows: &[Row], modifiers: Modifiers, text: &[u8], at: usize) -> bool
 /// Where the rows begin that a name with this first byte may be in: those before them can't match.
 #[inline(always)]
 fn first_row(b: u8) -> usize
-    ensures picked { picks result b ≡ true }
+    ensures picked { (p : Profile) → picks (rows_of p) result b ≡ true }
     ensures within { result ≤ length ROWS }
 {
     let first: &[[u8; 16]] = &FIRST;
@@ -170,10 +173,10 @@ fn first_row(b: u8) -> usize
     usize::from(first[b / 16][b % 16])
 }
 
-/// The form of the command that this byte alone names, whatever follows it.
+/// The form of the command that this byte alone names, whatever follows it, in each profile.
 #[inline(always)]
 pub fn lone_form(b: u8) -> Option<Form>
-    ensures { IfSome result (λ form. (bs : List ℕ) → named_at ROWS (b ∷ bs) ≡ Ok ((no_modifiers, form), bs)) }
+    ensures { IfSome result (λ form. (p : Profile) (bs : List ℕ) → named_at (rows_of p) (b ∷ bs) ≡ Ok ((no_modifiers, form_in p form), bs)) }
 {
     let rows: &[Row] = &ROWS;
     let first = first_row(b);
@@ -189,8 +192,8 @@ pub fn lone_form(b: u8) -> Option<Form>
 /// Where the rows begin by which a command at this place may be named.
 fn first_row_at(text: &[u8], at: usize) -> usize
     requires { at ≤ length text.now }
-    ensures same { (m : Modifiers) → row_at (drop result ROWS) m (drop at text.now)
-        ≡ row_at ROWS m (drop at text.now) }
+    ensures same { (p : Profile) (m : Modifiers) → row_at (drop result (rows_of p)) m (drop at text.now)
+        ≡ row_at (rows_of p) m (drop at text.now) }
     ensures within { result ≤ length ROWS }
 {
     if at == text.len() {
@@ -199,13 +202,29 @@ fn first_row_at(text: &[u8], at: usize) -> usize
     first_row(text[at])
 }
 
+/// The table of a profile.
+#[inline(always)]
+fn rows_of(profile: Profile) -> &'static [Row]
+    ensures { result.now ≡ rows_of profile }
+{
+    match profile {
+        Profile::Named => &ROWS,
+        Profile::Wide => &WIDE_ROWS,
+    }
+}
+
 /// The form of the command of this name, and the place after the name.
-fn form_at(modifiers: Modifiers, text: &[u8], at: usize) -> Result<(Form, usize), Code>
+fn form_at(
+    profile: Profile,
+    modifiers: Modifiers,
+    text: &[u8],
+    at: usize,
+) -> Result<(Form, usize), Code>
     requires { at ≤ length text.now }
-    ensures read { Gives (λ x. (x.0, drop x.1 text.now)) result (form_at ROWS modifiers (drop at text.now)) }
+    ensures read { Gives (λ x. (x.0, drop x.1 text.now)) result (form_at (rows_of profile) modifiers (drop at text.now)) }
     ensures within { IfOk result (λ x. (at < x.1) × (x.1 ≤ length text.now)) }
 {
-    let rows: &[Row] = &ROWS;
+    let rows = rows_of(profile);
     let first = first_row_at(text, at);
     match row_at(&rows[first..], modifiers, text, at) {
         Some((row, to)) => Ok((row.form, to)),
@@ -217,17 +236,35 @@ fn form_at(modifiers: Modifiers, text: &[u8], at: usize) -> Result<(Form, usize)
     }
 }
 
+/// The form of a row of a profile, by that of the same row of Named.
+#[inline(always)]
+fn form_in(profile: Profile, form: Form) -> Form
+    ensures { result ≡ form_in profile form }
+{
+    match profile {
+        Profile::Named => form,
+        Profile::Wide => match form {
+            Form::Test => Form::WideTest,
+            other => other,
+        },
+    }
+}
+
 /// The modifiers of a command and its form, and the place after its name.
 #[tactic(auto, unfolding(crate::specs::FirstRow::named_at))]
-pub(crate) fn named_at(text: &[u8], at: usize) -> Result<(Modifiers, Form, usize), Code>
+pub(crate) fn named_at(
+    profile: Profile,
+    text: &[u8],
+    at: usize,
+) -> Result<(Modifiers, Form, usize), Code>
     requires { at < length text.now }
-    ensures read { Gives (λ x. ((x.0, x.1), drop x.2 text.now)) result (named_at ROWS (drop at text.now)) }
+    ensures read { Gives (λ x. ((x.0, x.1), drop x.2 text.now)) result (named_at (rows_of profile) (drop at text.now)) }
     ensures within { IfOk result (λ x. (at < x.2) × (x.2 ≤ length text.now)) }
 {
     if let Some(form) = lone_form(text[at]) {
-        return Ok((NONE, form, at + 1));
+        return Ok((NONE, form_in(profile, form), at + 1));
     }
     let (modifiers, at) = modifiers_at(NONE, text, at)?;
-    let (form, at) = form_at(modifiers, text, at)?;
+    let (form, at) = form_at(profile, modifiers, text, at)?;
     Ok((modifiers, form, at))
 }

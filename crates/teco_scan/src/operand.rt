@@ -1,18 +1,19 @@
 //! Reading what follows a command's name.
 ghost use Rattle.std.specs.Prelude.{◌≡◌, ◌+◌, ◌<◌, ◌≤◌, ℕ, length, drop, IfOk};
 ghost use Rattle.memchr.specs.Find.{IsFirstByte, is_byte};
-ghost use Rattle.teco_scan.specs.Scan.{test_of, byte_at, register_at, test_at, delimiter_at, text_at, operand_at};
+ghost use Rattle.teco_core.specs.Ascii.{upper};
+ghost use Rattle.teco_scan.specs.Scan.{letter_test, sign_test, test_of, byte_at, register_at, test_at, delimiter_at, text_at, operand_at};
 ghost use Rattle.teco_scan.specs.Seen.{Gives, IsSpanIn, IsKindIn, IsKindPlaced, bytes_in, instruction_in};
 
 use crate::command::{Form, Modifiers, Test, TextCommand};
+use crate::profile::Profile;
 use crate::token::{Item, Span, TokenKind};
 use memchr::memchr;
 use teco_core::{Code, ESC, Reg};
 
 #[inline]
-#[tactic(auto, unfolding(crate::specs::Scan::test_of))]
-fn test_of(b: u8) -> Option<Test>
-    ensures { result ≡ test_of b }
+fn letter_test(b: u8) -> Option<Test>
+    ensures { result ≡ letter_test (upper b) }
 {
     match b.to_ascii_uppercase() {
         b'E' | b'F' | b'U' => Some(Test::Zero),
@@ -25,6 +26,31 @@ fn test_of(b: u8) -> Option<Test>
         b'V' => Some(Test::Lower),
         b'W' => Some(Test::Upper),
         _ => None,
+    }
+}
+
+fn sign_test(b: u8) -> Option<Test>
+    ensures { result ≡ sign_test (upper b) }
+{
+    match b.to_ascii_uppercase() {
+        b'=' => Some(Test::Zero),
+        b'<' => Some(Test::Below),
+        b'>' => Some(Test::Above),
+        _ => None,
+    }
+}
+
+#[inline(always)]
+#[tactic(auto, unfolding(crate::specs::Scan::test_of))]
+fn test_of(profile: Profile, b: u8) -> Option<Test>
+    ensures { result ≡ test_of profile b }
+{
+    match profile {
+        Profile::Named => letter_test(b),
+        Profile::Wide => match letter_test(b) {
+            Some(test) => Some(test),
+            None => sign_test(b),
+        },
     }
 }
 
@@ -54,14 +80,14 @@ pub(crate) fn register_at(text: &[u8], at: usize) -> Result<(Reg, usize), Code>
     }
 }
 
-#[inline]
+#[inline(always)]
 #[tactic(auto, unfolding(crate::specs::Scan::test_at))]
-pub(crate) fn test_at(text: &[u8], at: usize) -> Result<(Test, usize), Code>
-    ensures read { Gives (λ x. (x.0, drop x.1 text.now)) result (test_at (drop at text.now)) }
+pub(crate) fn test_at(profile: Profile, text: &[u8], at: usize) -> Result<(Test, usize), Code>
+    ensures read { Gives (λ x. (x.0, drop x.1 text.now)) result (test_at profile (drop at text.now)) }
     ensures within { IfOk result (λ x. (at < x.1) × (x.1 ≤ length text.now)) }
 {
     let (b, at) = byte_at(text, at)?;
-    match test_of(b) {
+    match test_of(profile, b) {
         None => Err(Code::Iqc),
         Some(test) => Ok((test, at)),
     }
@@ -217,7 +243,11 @@ pub(crate) fn operand_at(
             Ok((TokenKind::Item(Item::Byte(b)), at))
         }
         Form::Test => {
-            let (test, at) = test_at(text, at)?;
+            let (test, at) = test_at(Profile::Named, text, at)?;
+            Ok((TokenKind::Test(test), at))
+        }
+        Form::WideTest => {
+            let (test, at) = test_at(Profile::Wide, text, at)?;
             Ok((TokenKind::Test(test), at))
         }
         Form::Text(command, usual) => one_text_at(command, usual, modifiers, text, at),

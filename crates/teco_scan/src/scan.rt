@@ -2,21 +2,23 @@
 ghost use Rattle.std.specs.Prelude.{◌≡◌, ◌<◌, ◌≤◌, ℕ, List, length, drop, IfOk, slice_index, true};
 ghost use Rattle.teco_core.specs.Ascii.{is_digit};
 ghost use Rattle.teco_scan.specs.FirstRow.{named_at, with_operand};
-ghost use Rattle.teco_scan.specs.Scan.{no_modifiers, scan, scanned, run_of, after_run, after_fillers};
+ghost use Rattle.teco_scan.specs.Scan.{rows_of, no_modifiers, scan, scan_by, scanned, run_of, after_run, after_fillers};
 ghost use Rattle.teco_scan.specs.Spelling.{IsSpelled, IsLongest, IsCutExactly, LacksRegisterExactly, LacksTestExactly, IsIllExactly, IsFaultOfFour, PassesFillers};
 ghost use Rattle.teco_scan.specs.Written.{NumbersAreSpelled, PlainCommandsAreSpelled, RegisterCommandsAreSpelled, TextCommandsAreSpelled, MarksAreSpelled, ModifiersAreAdmitted};
 ghost use Rattle.teco_scan.specs.Table.{is_table};
+ghost use Rattle.teco_scan.specs.Wide.{WideKeeps, WideAdds, WideSpellings};
 ghost use Rattle.teco_scan.specs.declared.command.Row.{Row};
 ghost use Rattle.teco_scan.specs.Seen.{Gives, IsKindIn, IsKindPlaced, IsFoundAt, IsDetermined, bytes_in, instruction_in, found_in};
 
 use crate::command::{Form, Modifiers};
 use crate::leads::{
     bare_token, digits_token, end_found, escape_token, lead, mark_token, register_token, tag_token,
-    test_token, text_token,
+    test_token_in, text_token,
 };
 use crate::names::named_at;
 use crate::operand::operand_at;
-use crate::table::ROWS;
+use crate::profile::Profile;
+use crate::table::{ROWS, WIDE_ROWS};
 use crate::token::{Found, Span, Token, TokenKind};
 use teco_core::{Code, is_filler};
 
@@ -35,16 +37,20 @@ pub fn filler_end(text: &[u8], at: usize) -> usize
     to
 }
 
-/// A command, from its first byte on: its modifiers, what it instructs and the place after it.
+/// A command of a profile, from its first byte on: its modifiers, what it instructs and the place after it.
 #[inline(never)]
-fn command_from(text: &[u8], at: usize) -> Result<(Modifiers, TokenKind, usize), Code>
+fn command_from(
+    profile: Profile,
+    text: &[u8],
+    at: usize,
+) -> Result<(Modifiers, TokenKind, usize), Code>
     requires { at < length text.now }
-    ensures read { Gives (λ x. (record { modifiers = x.0; instruction = instruction_in text.now x.1 }, drop x.2 text.now)) result (with_operand (named_at ROWS (drop at text.now))) }
+    ensures read { Gives (λ x. (record { modifiers = x.0; instruction = instruction_in text.now x.1 }, drop x.2 text.now)) result (with_operand (named_at (rows_of profile) (drop at text.now))) }
     ensures within { IfOk result (λ x. (at < x.2) × (x.2 ≤ length text.now)) }
     ensures spans { IfOk result (λ x. IsKindIn (length text.now) x.1) }
     ensures placed { IfOk result (λ x. IsKindPlaced (record { from = at; to = x.2 }) x.1) }
 {
-    let (modifiers, form, to) = named_at(text, at)?;
+    let (modifiers, form, to) = named_at(profile, text, at)?;
     let (kind, to) = operand_at(form, modifiers, text, to)?;
     Ok((modifiers, kind, to))
 }
@@ -57,6 +63,16 @@ fn command_from(text: &[u8], at: usize) -> Result<(Modifiers, TokenKind, usize),
 pub fn token_at(text: &[u8], at: usize) -> Found
     requires { at ≤ length text.now }
     ensures read { found_in text.now result ≡ scan (drop at text.now) }
+    ensures place { IsFoundAt text.now at result }
+{
+    token_in(Profile::Named, text, at)
+}
+
+/// The same in a profile: [`token_at`] is that of Named.
+#[inline(always)]
+pub fn token_in(profile: Profile, text: &[u8], at: usize) -> Found
+    requires { at ≤ length text.now }
+    ensures read { found_in text.now result ≡ scan_by profile (drop at text.now) }
     ensures place { IsFoundAt text.now at result }
 {
     let from = filler_end(text, at);
@@ -86,13 +102,13 @@ pub fn token_at(text: &[u8], at: usize) -> Found
             }
         }
         Some(Form::Test) => {
-            if let Some(found) = test_token(text, at, from) {
+            if let Some(found) = test_token_in(profile, text, at, from) {
                 return found;
             }
         }
         _ => {}
     }
-    match command_from(text, from) {
+    match command_from(profile, text, from) {
         Ok((modifiers, kind, to)) => Found::Token(Token {
             span: Span { from, to },
             modifiers,
@@ -110,6 +126,8 @@ pub fn token_at(text: &[u8], at: usize) -> Found
 /// register or test, and ILL exactly where a refused name is, or nothing of all this is so; no other fault is read. Fillers
 /// are passed. The clauses of [`token_at`] leave one answer. The table says what commands there are, and here is how each of its
 /// rows is written, and which of them admit modifiers.
+///
+/// [`WIDE_ROWS`] passes too. What Named finds, Wide finds; what Wide finds, Named finds, or it is ILL or IQC there.
 pub fn spelling()
     ensures table { is_table ROWS ≡ true }
     ensures spelled { (rows : List Row) → IsSpelled rows }
@@ -127,4 +145,8 @@ pub fn spelling()
     ensures text_commands { TextCommandsAreSpelled }
     ensures marks { MarksAreSpelled }
     ensures modifiers { ModifiersAreAdmitted }
+    ensures wide_table { is_table WIDE_ROWS ≡ true }
+    ensures wide_keeps { WideKeeps }
+    ensures wide_adds { WideAdds }
+    ensures wide_spellings { WideSpellings }
 {}

@@ -31,6 +31,7 @@ const ANY: Modifiers = Modifiers {
 };
 
 // A macro's call can't write a constant, but it can write a constant's value: so the commands are given to the macro of each value.
+// After an arrow stands what Wide has in place of what Named has.
 macro_rules! commands {
     ($value:ident $($byte:literal)*) => {
         $value! {
@@ -54,7 +55,7 @@ macro_rules! commands {
             Control(b'E'), NONE, Form::Bare(Bare::Quantity(Quantity::FormFeed));
             Control(b'N'), NONE, Form::Bare(Bare::Quantity(Quantity::InputEnd));
             Control(b'^'), NONE, Form::Byte;
-            One(b'A'), NONE, Form::Bare(Bare::Level(LevelCommand::Append));
+            One(b'A'), NONE => COLON, Form::Bare(Bare::Level(LevelCommand::Append));
             One(b'\\'), NONE, Form::Bare(Bare::Level(LevelCommand::Decimal));
             One(b'J'), NONE, Form::Bare(Bare::Command(Command::Jump));
             One(b'C'), NONE, Form::Bare(Bare::Command(Command::Forward));
@@ -66,25 +67,25 @@ macro_rules! commands {
             Control(b'T'), NONE, Form::Bare(Bare::Command(Command::TypeByte));
             One(b'\t'), NONE, Form::Text(TextCommand::InsertTab, ESC);
             One(b'T'), NONE, Form::Bare(Bare::Command(Command::TypeOut));
-            One(b'Y'), NONE, Form::Bare(Bare::Command(Command::NextPage));
+            One(b'Y'), NONE => COLON, Form::Bare(Bare::Command(Command::NextPage));
             Two(b'P', b'W'), NONE, Form::Bare(Bare::Command(Command::WritePage));
-            One(b'P'), NONE, Form::Bare(Bare::Command(Command::TurnPages));
+            One(b'P'), NONE => COLON, Form::Bare(Bare::Command(Command::TurnPages));
             Two(b'E', b'X'), NONE, Form::Bare(Bare::Command(Command::Exit));
             Control(b'X'), NONE, Form::Bare(Bare::Command(Command::CaseMode));
             One(ESC), NONE, Form::Escape;
             One(b'Q'), COLON, Form::Register(RegisterCommand::Number);
             One(b'%'), NONE, Form::Register(RegisterCommand::Increment);
             One(b'U'), NONE, Form::Register(RegisterCommand::Set);
-            One(b'X'), NONE, Form::Register(RegisterCommand::Extract);
+            One(b'X'), NONE => COLON, Form::Register(RegisterCommand::Extract);
             One(b'['), NONE, Form::Register(RegisterCommand::Push);
             One(b']'), NONE, Form::Register(RegisterCommand::Pop);
             One(b'G'), COLON, Form::Register(RegisterCommand::Get);
-            Control(b'U'), AT, Form::SetText;
+            Control(b'U'), AT => AT_AND_COLON, Form::SetText;
             One(b'M'), NONE, Form::Register(RegisterCommand::Macro);
             One(b'<'), NONE, Form::Mark(BlockMark::Iterate);
             One(b'>'), NONE, Form::Mark(BlockMark::EndIteration);
-            One(b';'), NONE, Form::Bare(Bare::Command(Command::Leave));
-            One(b'"'), NONE, Form::Test;
+            One(b';'), NONE => COLON, Form::Bare(Bare::Command(Command::Leave));
+            One(b'"'), NONE, Form::Test => Form::WideTest;
             One(b'|'), NONE, Form::Mark(BlockMark::Otherwise);
             One(b'\''), NONE, Form::Mark(BlockMark::EndTest);
             One(b'!'), NONE, Form::Tag;
@@ -100,15 +101,36 @@ macro_rules! commands {
 }
 
 macro_rules! rows {
-    ([] $($name:ident($($letter:expr),*), $allows:expr, $form:expr;)*) => {
+    ([] $($name:ident($($letter:expr),*), $allows:expr $(=> $more:expr)?, $form:expr $(=> $other:expr)?;)*) => {
         [$(Row { name: Name::$name($($letter),*), allows: $allows, form: $form }),*]
     };
 }
 
+macro_rules! last {
+    ($first:expr) => { $first };
+    ($first:expr, $last:expr) => { $last };
+}
+
+macro_rules! wide_rows {
+    ([] $($name:ident($($letter:expr),*), $allows:expr $(=> $more:expr)?, $form:expr $(=> $other:expr)?;)*) => {
+        [$(Row {
+            name: Name::$name($($letter),*),
+            allows: last!($allows $(, $more)?),
+            form: last!($form $(, $other)?),
+        }),*]
+    };
+}
+
+/// The number of rows.
+const COUNT: usize = 60;
+
 /// Every command but the run of digits. The table is a definition: it says what commands there are. A longer name comes before one
 /// that begins it. Rows whose names begin with the same byte stand close together, since they are tried one after another from the
 /// first of them on.
-pub const ROWS: [Row; 60] = commands!(rows);
+pub const ROWS: [Row; COUNT] = commands!(rows);
+
+/// The rows of Wide: the same, but that some allow a colon more, and that there are more tests.
+pub const WIDE_ROWS: [Row; COUNT] = commands!(wide_rows);
 
 // The first row whose name may begin with the byte.
 macro_rules! first_row {
@@ -126,7 +148,7 @@ macro_rules! for_each {
 }
 
 macro_rules! first_rows {
-    ([$($byte:literal)*] $($name:ident($letter:tt $(, $more:expr)*), $allows:expr, $form:expr;)*) => {
+    ([$($byte:literal)*] $($name:ident($letter:tt $(, $later:expr)*), $allows:expr $(=> $more:expr)?, $form:expr $(=> $other:expr)?;)*) => {
         for_each! { [$($name $letter)*] $($byte)* }
     };
 }
@@ -134,8 +156,8 @@ macro_rules! first_rows {
 // No name begins with a byte from 128 on.
 const PAST_ASCII: [u8; 16] = [ROWS.len() as u8; 16];
 
-/// For each byte, in lines of 16, the first row whose name may begin with it, or the number of rows. A small letter is given as
-/// its capital.
+/// For each byte, in lines of 16, the first row whose name may begin with it, or the number of rows: of both tables, since their
+/// names are the same. A small letter is given as its capital.
 pub(crate) const FIRST: [[u8; 16]; 16] = [
     commands!(first_rows 0 1 2 3 4 5 6 7 8 9 10 11 12 13 14 15),
     commands!(first_rows 16 17 18 19 20 21 22 23 24 25 26 27 28 29 30 31),
