@@ -138,21 +138,29 @@ pub goes_made : (f : State → Arguments → Made) (s t : State) (a left : Argum
     → done_by (goes f) s a ≡ Ok (record { state = t; arguments = left; typed = []; load = load; end = on })
 goes_made f s t a left load e done = ap (goes_on s) e ∙ ap (λ d. goes_on (record s { is_done = d }) (edits t left load)) (sym done)
 
--- It was done, or not, by the answer of a call.
+-- It was done, or not, by the answer of a call, and such arguments are left.
+pub acts_left : (f : Action) (s t new : State) (a after left : Arguments) (load : ℕ) (end : End) (F G : Trail → Type 0) (d : Answer) (n : Next) (r : Result Next Failure)
+    → OnOk d ((r ≡ Ok n) × (left ≡ after)) → IfErr d (λ e. (r ≡ Err (failure_of e)) × (left ≡ a)) → OnOk d (new ≡ t) → OnErr d (new ≡ s)
+    → OnOk d ((u : Trail) → F u → G (moved u load)) → OnErr d ((u : Trail) → F u → G u) → (IsBig d → done_by f s a ≡ Err code.Big)
+    → (d ≡ Ok tt → done_by f s a ≡ Ok (record { state = t; arguments = after; typed = []; load = load; end = end }))
+    → end_of new (tag_of end) n ≡ end → is_unfinished n ≡ false → ActsFrom f (scene_of s a F) (scene_of new left G) r
+acts_left f s t new a after left load end F G (Ok u) n r ok err there still carries keeps big made leads finished =
+    subst (λ r. ActsFrom f (scene_of s a F) (scene_of new left G) r) (sym ok.0)
+    (steers_done _ t new after left load end (scene_of s a F) G n (made refl) there ok.1 leads finished carries)
+acts_left f s t new a after left load end F G (Err Big) n r ok err there still carries keeps big made leads finished =
+    subst (λ r. ActsFrom f (scene_of s a F) (scene_of new left G) r) (sym err.0)
+    (record { why = inl (record { code = code.Big; is = refl; refused = big refl; own = refl }); state = still; arguments = err.1; follows = keeps })
+acts_left f s t new a after left load end F G (Err NoMemory) n r ok err there still carries keeps big made leads finished =
+    subst (λ r. ActsFrom f (scene_of s a F) (scene_of new left G) r) (sym err.0)
+    (record { why = inr refl; state = still; arguments = err.1; follows = keeps })
+
+-- the same where none are left
 pub acts_answered : (f : Action) (s t new : State) (a left : Arguments) (load : ℕ) (end : End) (F G : Trail → Type 0) (d : Answer) (n : Next) (r : Result Next Failure)
     → OnOk d ((r ≡ Ok n) × (left ≡ no_arguments)) → IfErr d (λ e. (r ≡ Err (failure_of e)) × (left ≡ a)) → OnOk d (new ≡ t) → OnErr d (new ≡ s)
     → OnOk d ((u : Trail) → F u → G (moved u load)) → OnErr d ((u : Trail) → F u → G u) → (IsBig d → done_by f s a ≡ Err code.Big)
     → (d ≡ Ok tt → done_by f s a ≡ Ok (record { state = t; arguments = no_arguments; typed = []; load = load; end = end }))
     → end_of new (tag_of end) n ≡ end → is_unfinished n ≡ false → ActsFrom f (scene_of s a F) (scene_of new left G) r
-acts_answered f s t new a left load end F G (Ok u) n r ok err there still carries keeps big made leads finished =
-    subst (λ r. ActsFrom f (scene_of s a F) (scene_of new left G) r) (sym ok.0)
-    (steers_done _ t new no_arguments left load end (scene_of s a F) G n (made refl) there ok.1 leads finished carries)
-acts_answered f s t new a left load end F G (Err Big) n r ok err there still carries keeps big made leads finished =
-    subst (λ r. ActsFrom f (scene_of s a F) (scene_of new left G) r) (sym err.0)
-    (record { why = inl (record { code = code.Big; is = refl; refused = big refl; own = refl }); state = still; arguments = err.1; follows = keeps })
-acts_answered f s t new a left load end F G (Err NoMemory) n r ok err there still carries keeps big made leads finished =
-    subst (λ r. ActsFrom f (scene_of s a F) (scene_of new left G) r) (sym err.0)
-    (record { why = inr refl; state = still; arguments = err.1; follows = keeps })
+acts_answered f s t new a left load end = acts_left f s t new a no_arguments left load end
 
 -- what a desk did whose answer is no refusal is within the limit
 pub within_by : (n limit : ℕ) (d : Answer) → (limit < n → IsBig d) → d ≡ Ok tt → n ≤ limit

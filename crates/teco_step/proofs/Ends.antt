@@ -22,6 +22,7 @@ use Rattle.teco_scan.specs.Scan as token
 use Rattle.teco_step.specs.Effect.{effect, command_effect, bare_effect, register_effect, text_effect, item_effect}
 use Rattle.teco_step.specs.declared.next.Setting.{Setting}
 use Rattle.teco_step.specs.Step.{Attempt, Made, Action, goes, steers, goes_on, done_by, End, on, leave, go, call, again, stop, settled, ends, takes_none, takes_one_or}
+use Rattle.teco_step.specs.Control.{is_left}
 use Rattle.teco_step.specs.Searching.{search_or_compare, search_and_replace}
 use Rattle.teco_step.specs.PageSearching.{search_pages}
 use Rattle.teco_step.proofs.Searches.{Searches, searches, replacement_searches}
@@ -79,8 +80,8 @@ search_ends inside i s (Err c) h = tt
 command_ends : (c : Command) (w : Setting) → ActionMayEnd w.inside (token.bare (bare.Command c)) (command_effect c w)
 command_ends command.Leave w = λ s a.
     let i = token.bare (bare.Command command.Leave) in
-    ends_then w.inside i (takes_one_or (truth s.last_found) a) (λ n. cond w.inside (ends s no_arguments (cond (int_le (pos 0) n) leave on)) (Err code.Sni))
-    (λ n. leave_or_on_ends w.inside i (int_le (pos 0) n) s)
+    ends_then w.inside i (takes_one_or (truth s.last_found) a) (λ n. cond w.inside (ends s no_arguments (cond (is_left w.modifiers n) leave on)) (Err code.Sni))
+    (λ n. leave_or_on_ends w.inside i (is_left w.modifiers n) s)
 command_ends command.TurnPages w = λ s a.
     let i = token.bare (bare.Command command.TurnPages) in
     ends_then w.inside i (pages_left w.work a) _ (λ n. ends_then w.inside i (with_page_turned s) _ (λ t. pages_end w.inside i n refl))

@@ -19,6 +19,7 @@ use Rattle.teco_scan.specs.declared.command.TextCommand.TheVariants as text_comm
 use Rattle.teco_scan.specs.Scan.{Item}
 use Rattle.teco_scan.specs.Scan as token
 use Rattle.teco_step.specs.Effect.{effect, command_effect, bare_effect, register_effect, text_effect, item_effect}
+use Rattle.teco_step.specs.Control.{is_left}
 use Rattle.teco_step.specs.Pages.{after_page, pages_left, with_output_in_limit, with_page_read, with_page_turned}
 use Rattle.teco_step.specs.declared.next.Setting.{Setting}
 use Rattle.teco_step.specs.Step.{Attempt, Made, Action, End, goes, steers, goes_on, done_by, on, leave, again, stop, settled, ends, takes_none, takes_one_or}
@@ -73,7 +74,7 @@ search_stops further s (Ok step) (inr (inr (may, work, e)), keeps) = inl (ap err
 search_stops further s (Err c) h = tt
 
 command_stops : (c : Command) (w : Setting) → ActionStops (command_effect c w)
-command_stops command.Leave w = λ s a. stops_then (takes_one_or (truth s.last_found) a) _ (λ n. leave_stops w.inside (int_le (pos 0) n) s)
+command_stops command.Leave w = λ s a. stops_then (takes_one_or (truth s.last_found) a) _ (λ n. leave_stops w.inside (is_left w.modifiers n) s)
 command_stops command.TurnPages w = λ s a. stops_then (pages_left w.work a) _ (λ n. stops_then (with_page_turned s) _ (λ t. inl (after_stops n)))
 command_stops command.Exit w = λ s a. stops_then (takes_none a) _ (λ none. stops_then (with_output_in_limit (finished s)) _ (λ t. inl refl))
 command_stops _ w = tt

@@ -1,6 +1,6 @@
 -- Only a step that ends by an exit makes a session done.
-use Rattle.std.proofs.Common.{◌≡◌, refl, ℕ, List, [], length, Result, Ok, Err, ℤ, pos, Bool, true, false, cond, nat_le}
-use Rattle.std.specs.Prelude.{◌≢◌, int_le}
+use Rattle.std.proofs.Common.{◌≡◌, refl, ℕ, List, [], length, Result, Ok, Err, ℤ, Bool, true, false, cond, nat_le}
+use Rattle.std.specs.Prelude.{◌≢◌}
 use Rattle.teco_core.specs.declared.code.Code.{Code}
 use Rattle.teco_core.specs.declared.code.Code.TheVariants as code
 use Rattle.teco_core.specs.Refusal.{◌>>=◌}
@@ -20,8 +20,9 @@ use Rattle.teco_scan.specs.declared.command.TextCommand.TheVariants as text_comm
 use Rattle.teco_scan.specs.Scan.{Item}
 use Rattle.teco_scan.specs.Scan as token
 use Rattle.teco_step.specs.Effect.{effect, command_effect, bare_effect, register_effect, text_effect, item_effect}
+use Rattle.teco_step.specs.Control.{is_left}
 use Rattle.teco_step.specs.Editing.{with_text_in_limit}
-use Rattle.teco_step.specs.Pages.{after_page, pages_left, with_output_in_limit, with_page_read, with_page_turned}
+use Rattle.teco_step.specs.Pages.{after_page, is_asked, pages_left, tells, with_output_in_limit, with_page_read, with_page_turned}
 use Rattle.teco_step.specs.declared.next.Setting.{Setting}
 use Rattle.teco_step.specs.Step.{Attempt, Made, Action, goes, steers, goes_on, done_by, on, leave, out, settled, ends, takes_none, takes_one_or}
 use Rattle.teco_step.specs.Searching.{search_or_compare, search_and_replace}
@@ -65,22 +66,22 @@ keeps_within : (s t : State) (b : Bool) (f : State → Attempt) → Keeps s (f t
 keeps_within s t true f h = h
 keeps_within s t false f h = tt
 
-abbrev page_turned : State → ℤ → State → Attempt
-page_turned s n t = Ok (record { state = t; arguments = no_arguments; typed = []; load = page_load s; end = after_page n })
+abbrev page_turned : State → Arguments → ℤ → State → Attempt
+page_turned s left n t = Ok (record { state = t; arguments = left; typed = []; load = page_load s; end = after_page n })
 
-turned_keeps : (s : State) (n : ℤ) → Keeps s (with_page_turned s >>= page_turned s n)
-turned_keeps s n =
-    elim (nat_le (length (with_next_page s).output) FILE_LIMIT) as (λ b. Keeps s ((cond b (Ok (with_next_page s)) (Err code.Big) >>= with_text_in_limit) >>= page_turned s n)) [
-      | true ↦ keeps_within s (with_next_page s) (nat_le (length (with_next_page s).text) TEXT_LIMIT) (page_turned s n) (λ stays. refl)
+turned_keeps : (s : State) (left : Arguments) (n : ℤ) → Keeps s (with_page_turned s >>= page_turned s left n)
+turned_keeps s left n =
+    elim (nat_le (length (with_next_page s).output) FILE_LIMIT) as (λ b. Keeps s ((cond b (Ok (with_next_page s)) (Err code.Big) >>= with_text_in_limit) >>= page_turned s left n)) [
+      | true ↦ keeps_within s (with_next_page s) (nat_le (length (with_next_page s).text) TEXT_LIMIT) (page_turned s left n) (λ stays. refl)
       | false ↦ tt
     ]
 
 -- the actions that say how they end, as the effect dispatches them
 command_keeps : (c : Command) (w : Setting) → ActionKeeps (command_effect c w)
 command_keeps command.Leave w = λ s a.
-    keeps_then s (takes_one_or (truth s.last_found) a) (λ n. cond w.inside (ends s no_arguments (cond (int_le (pos 0) n) leave on)) (Err code.Sni))
-    (λ n. leave_keeps w.inside (int_le (pos 0) n) s)
-command_keeps command.TurnPages w = λ s a. keeps_then s (pages_left w.work a) _ (λ n. turned_keeps s n)
+    keeps_then s (takes_one_or (truth s.last_found) a) (λ n. cond w.inside (ends s no_arguments (cond (is_left w.modifiers n) leave on)) (Err code.Sni))
+    (λ n. leave_keeps w.inside (is_left w.modifiers n) s)
+command_keeps command.TurnPages w = λ s a. keeps_then s (pages_left w.work a) _ (λ n. turned_keeps s (tells (is_asked w.modifiers n) s) n)
 command_keeps command.Exit w = λ s a. keeps_then s (takes_none a) _ (λ none. keeps_then s (with_output_in_limit (finished s)) _ (λ t stays. absurd (stays refl)))
 command_keeps _ w = tt
 

@@ -1,6 +1,5 @@
 -- A step changes the state or it types, and its load is what it moves.
 use Rattle.std.proofs.Common.{◌≡◌, ap, sym, subst, refl, ◌⊎◌, inl, inr, ℕ, ◌≤◌, Bool, true, false, cond, List, [], ◌∷◌, length, Ok, Err, pos, ◌+ℤ◌, ◌-ℤ◌}
-use Rattle.std.specs.Prelude.{int_le}
 use Rattle.std.specs.Fmt.{digits, signed_decimal}
 use Rattle.teco_core.specs.declared.code.Code.TheVariants as code
 use Rattle.teco_core.specs.Number.{decimal_value, to_word, truth}
@@ -18,6 +17,7 @@ use Rattle.teco_scan.specs.declared.command.TextCommand.TheVariants as text_comm
 use Rattle.teco_scan.specs.Scan.{Item}
 use Rattle.teco_scan.specs.Scan as token
 use Rattle.teco_step.specs.Effect.{effect, command_effect, bare_effect, register_effect, text_effect, item_effect}
+use Rattle.teco_step.specs.Control.{is_left}
 use Rattle.teco_step.specs.Line.{line}
 use Rattle.teco_step.specs.Load.{Moves}
 use Rattle.teco_step.specs.Pages.{pages_left, with_output_in_limit, with_page_turned}
@@ -69,7 +69,7 @@ exit_works s t e = within_limit s (finished s) t (length s.text) (output_is (fin
 
 -- The actions, as the effect dispatches them. What a command comes to after it has taken its arguments has one lemma here.
 command_works : (c : Command) (w : Setting) → ActionWorks (command_effect c w)
-command_works command.Leave w = λ s a. attempt_then s (takes_one_or (truth s.last_found) a) _ (λ n e. leave_works w.inside (int_le (pos 0) n) s)
+command_works command.Leave w = λ s a. attempt_then s (takes_one_or (truth s.last_found) a) _ (λ n e. leave_works w.inside (is_left w.modifiers n) s)
 command_works command.TurnPages w = λ s a.
     attempt_then s (pages_left w.work a) _ (λ n e. attempt_then s (with_page_turned s) _ (λ t h. within_limit s (with_next_page s) t (page_load s) (turned_is s t h) (λ within. turn_moves s)))
 command_works command.Exit w = λ s a. attempt_then s (takes_none a) _ (λ none e. attempt_then s (with_output_in_limit (finished s)) _ (λ t h. exit_works s t h))
@@ -84,7 +84,7 @@ command_works command.View w = λ s a. made_then s (takes_none a) _ (λ none e. 
 command_works command.TypeByte w = λ s a. made_then s (takes_one code.Arg a) _ (λ n e. made_then s (as_byte n) _ (λ b h. types_works s (b ∷ [])))
 command_works command.Print w = λ s a. made_then s (takes_one code.Nae a) _ (λ n e. types_works s (ended w.modifiers (signed_decimal n)))
 command_works command.PrintOctal w = λ s a. made_then s (takes_one code.Nae a) _ (λ n e. types_works s (ended w.modifiers (digits 8 false (to_word n))))
-command_works command.NextPage w = next_page_works
+command_works command.NextPage w = next_page_works w.modifiers
 command_works command.WritePage w = write_page_works
 command_works command.CaseMode w = case_works
 
@@ -92,13 +92,13 @@ bare_works : (b : Bare) (w : Setting) → ActionWorks (bare_effect b w)
 bare_works (bare.Quantity q) w = λ s a. gives_works s a (quantity_value q s)
 bare_works (bare.Arithmetic b) w = λ s a. made_then s (built b (length s.text) a) _ (λ built_up e. inl (refl, refl))
 bare_works (bare.Command c) w = command_works c w
-bare_works (bare.Level l) w = level_works l
+bare_works (bare.Level l) w = level_works w.modifiers l
 
 register_works : (c : RegisterCommand) (q : ℕ) (w : Setting) → ActionWorks (register_effect c q w)
 register_works register_command.Number q w = λ s a. gives_works s a (registers.number_or_length w.modifiers q s)
 register_works register_command.Increment q w = increment_works q
 register_works register_command.Set q w = set_number_works q
-register_works register_command.Extract q w = extract_works q
+register_works register_command.Extract q w = extract_works w.modifiers q
 register_works register_command.Push q w = push_works q
 register_works register_command.Pop q w = pop_works q
 register_works register_command.Get q w = get_works w.modifiers q
@@ -131,7 +131,7 @@ module _ (long : Long) (is_forward : Forward) (is_backward : Backward) (spelled 
   item_works (token.bare b) w = bare_works b w
   item_works (token.register c q) w = register_works c q w
   item_works (token.text c text) w = text_works c text w
-  item_works (token.set_text q text) w = set_text_works q text
+  item_works (token.set_text q text) w = set_text_works w.modifiers q text
   item_works (token.replace old new) w = seeks_and_replaces long is_forward is_backward spelled old new w
   item_works (token.byte b) w = λ s a. gives_works s a (pos b)
 

@@ -136,24 +136,24 @@ decimal_works (level.Sign n) s a = reads_works (numeral_at (drop s.pointer s.tex
 decimal_works level.Empty s a = reads_works (numeral_at (drop s.pointer s.text)) s a
 decimal_works level.Waits s a = reads_works (numeral_at (drop s.pointer s.text)) s a
 
-append_page_works : (s : State) (a : Arguments) → MadeWorks s (append_page s a)
-append_page_works s a =
+append_page_works : (m : Modifiers) (s : State) (a : Arguments) → MadeWorks s (append_page m s a)
+append_page_works m s a =
     made_then s (takes_none a) _ (λ none e. made_then s (with_text_in_limit (with_more s)) _ (λ t h.
     within_limit s (with_more s) t (length (page s)) (text_is (with_more s) t h) (λ within. more_moves s)))
 
-appends_works : (l : Level) (s : State) (a : Arguments) → MadeWorks s (appends l s a)
-appends_works (level.Value n) s a = gives_works s (emptied a) _
-appends_works (level.Sign n) s a = gives_works s (emptied a) _
-appends_works level.Empty s a = append_page_works s a
-appends_works level.Waits s a = tt
+appends_works : (m : Modifiers) (l : Level) (s : State) (a : Arguments) → MadeWorks s (appends m l s a)
+appends_works m (level.Value n) s a = gives_works s (emptied a) _
+appends_works m (level.Sign n) s a = gives_works s (emptied a) _
+appends_works m level.Empty s a = append_page_works m s a
+appends_works m level.Waits s a = tt
 
-pub level_works : (l : LevelCommand) (s : State) (a : Arguments) → MadeWorks s (at_level l s a)
-level_works level_command.Append s a = appends_works (level_of a.expression) s a
-level_works level_command.Decimal s a = decimal_works (level_of a.expression) s a
+pub level_works : (m : Modifiers) (l : LevelCommand) (s : State) (a : Arguments) → MadeWorks s (at_level m l s a)
+level_works m level_command.Append s a = appends_works m (level_of a.expression) s a
+level_works m level_command.Decimal s a = decimal_works (level_of a.expression) s a
 
 -- pages
-pub next_page_works : (s : State) (a : Arguments) → MadeWorks s (next_page s a)
-next_page_works s a =
+pub next_page_works : (m : Modifiers) (s : State) (a : Arguments) → MadeWorks s (next_page m s a)
+next_page_works m s a =
     made_then s (takes_none a) _ (λ none e. made_then s (with_page_read s) _ (λ t h. within_limit s (with_page s) t (page_load s) (read_is s t h) (λ within. page_moves s)))
 
 writes_works : (low high : ℕ) (form_feed : Bool) (s : State) (a : Arguments) → MadeWorks s (writes low high form_feed s a)
@@ -191,11 +191,11 @@ sets_works q text s =
     made_if s (nat_le (length text) TEXT_LIMIT) (changes (with_register_text s q text) (length (content s.registers q).text + length text)) (Err code.Big)
     (inr (refl, λ within. register_moves s q text)) tt
 
-pub set_text_works : (q : ℕ) (text : List ℕ) (s : State) (a : Arguments) → MadeWorks s (set_text q text s a)
-set_text_works q text s a = made_then s (takes_none a) _ (λ none e. sets_works q text s)
+pub set_text_works : (m : Modifiers) (q : ℕ) (text : List ℕ) (s : State) (a : Arguments) → MadeWorks s (set_text m q text s a)
+set_text_works m q text s a = made_then s (takes_none a) _ (λ none e. sets_works q _ s)
 
-pub extract_works : (q : ℕ) (s : State) (a : Arguments) → MadeWorks s (extract q s a)
-extract_works q s a = made_then s (takes_reach s a) _ (λ r e. sets_works q _ s)
+pub extract_works : (m : Modifiers) (q : ℕ) (s : State) (a : Arguments) → MadeWorks s (extract m q s a)
+extract_works m q s a = made_then s (takes_reach s a) _ (λ r e. sets_works q _ s)
 
 pub push_works : (q : ℕ) (s : State) (a : Arguments) → MadeWorks s (push q s a)
 push_works q s a = made_if s _ (Err code.Pdo) (edits (pushed_from s q) a (length (content s.registers q).text)) tt (inr (refl, λ within. push_moves s q))

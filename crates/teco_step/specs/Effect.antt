@@ -37,9 +37,9 @@ command_effect command.View w = goes view
 command_effect command.TypeByte w = goes type_byte
 command_effect command.Print w = goes (print w.modifiers)
 command_effect command.PrintOctal w = goes (print_octal w.modifiers)
-command_effect command.Leave w = steers (leave_or_not w.inside)
-command_effect command.NextPage w = goes next_page
-command_effect command.TurnPages w = steers (turn_pages w.work)
+command_effect command.Leave w = steers (leave_or_not w.modifiers w.inside)
+command_effect command.NextPage w = goes (next_page w.modifiers)
+command_effect command.TurnPages w = steers (turn_pages w.modifiers w.work)
 command_effect command.WritePage w = goes write_page
 command_effect command.Exit w = steers exit
 command_effect command.CaseMode w = goes set_case
@@ -48,14 +48,14 @@ abbrev pub bare_effect : Bare → Setting → Action
 bare_effect (bare.Quantity q) w = goes (give_quantity q)
 bare_effect (bare.Arithmetic b) w = goes (build b)
 bare_effect (bare.Command c) w = command_effect c w
-bare_effect (bare.Level l) w = goes (at_level l)
+bare_effect (bare.Level l) w = goes (at_level w.modifiers l)
 
 -- Commands on a register.
 abbrev pub register_effect : RegisterCommand → ℕ → Setting → Action
 register_effect register_command.Number q w = goes (register_value w.modifiers q)
 register_effect register_command.Increment q w = goes (increment q)
 register_effect register_command.Set q w = goes (set_number q)
-register_effect register_command.Extract q w = goes (extract q)
+register_effect register_command.Extract q w = goes (extract w.modifiers q)
 register_effect register_command.Push q w = goes (push q)
 register_effect register_command.Pop q w = goes (pop q)
 register_effect register_command.Get q w = goes (get w.modifiers q)
@@ -75,7 +75,7 @@ item_effect (token.digits ds) w = goes (number ds)
 item_effect (token.bare b) w = bare_effect b w
 item_effect (token.register c q) w = register_effect c q w
 item_effect (token.text c text) w = text_effect c text w
-item_effect (token.set_text q text) w = goes (set_text q text)
+item_effect (token.set_text q text) w = goes (set_text w.modifiers q text)
 item_effect (token.replace old new) w = steers (search_and_replace old new w)
 item_effect (token.byte b) w = goes (give_byte b)
 

@@ -1,5 +1,5 @@
 -- Registers.
-use Rattle.std.specs.Prelude.{ℕ, ◌+◌, List, length, Err, ℤ, pos, ◌+ℤ◌, nat_le, ◌==◌, if◌then◌else◌}
+use Rattle.std.specs.Prelude.{ℕ, ◌+◌, List, [], ◌++◌, length, Err, ℤ, pos, ◌+ℤ◌, nat_le, ◌==◌, if◌then◌else◌}
 use Rattle.teco_core.specs.declared.code.Code.TheVariants.{Big, Cpq, Nau, Pdo}
 use Rattle.teco_core.specs.declared.arguments.Level.{Level}
 use Rattle.teco_core.specs.declared.arguments.Level.TheVariants as level
@@ -57,17 +57,21 @@ sets_text q text s =
     then changes (with_register_text s q text) (length (content s.registers q).text + length text)
     else Err Big
 
--- ^Uqtext$: the text of q becomes this one.
-abbrev pub set_text : ℕ → List ℕ → State → Arguments → Made
-set_text q text s a = do
-  none ← takes_none a
-  sets_text q text s
+-- With a colon the text of q is kept, and what comes to it follows.
+abbrev pub kept : Modifiers → ℕ → State → List ℕ
+kept m q s = if m.colons == 1 then (content s.registers q).text else []
 
--- nXq: what n lines reach becomes the text of q; m,nXq: the range does.
-abbrev pub extract : ℕ → State → Arguments → Made
-extract q s a = do
+-- ^Uqtext$: the text of q becomes this one. With a colon it comes behind the text of q.
+abbrev pub set_text : Modifiers → ℕ → List ℕ → State → Arguments → Made
+set_text m q text s a = do
+  none ← takes_none a
+  sets_text q (kept m q s ++ text) s
+
+-- nXq: what n lines reach becomes the text of q; m,nXq: the range does. With a colon it comes behind the text of q.
+abbrev pub extract : Modifiers → ℕ → State → Arguments → Made
+extract m q s a = do
   r ← takes_reach s a
-  sets_text q (part s r) s
+  sets_text q (kept m q s ++ part s r) s
 
 -- [q: what q holds is pushed, and PDO where no more can be. The arguments stay.
 abbrev pub push : ℕ → State → Arguments → Made

@@ -11,6 +11,7 @@ use Rattle.teco_scan.specs.declared.command.Arithmetic.{Arithmetic}
 use Rattle.teco_scan.specs.declared.command.Arithmetic.TheVariants as arithmetic
 use Rattle.teco_scan.specs.declared.command.LevelCommand.{LevelCommand}
 use Rattle.teco_scan.specs.declared.command.LevelCommand.TheVariants as level_command
+use Rattle.teco_scan.specs.declared.command.Modifiers.{Modifiers}
 use Rattle.teco_scan.specs.declared.command.Quantity.{Quantity}
 use Rattle.teco_scan.specs.declared.command.Quantity.TheVariants as quantity
 use Rattle.teco_store.specs.State.{State}
@@ -64,17 +65,17 @@ abbrev pub gives_code : ℤ → State → Arguments → Made
 gives_code n s a = gives s (emptied a) (code_at s.text (pos s.pointer +ℤ n))
 
 -- What A does, by what the level has.
-abbrev pub appends : Level → State → Arguments → Made
-appends (level.Value n) s a = gives_code n s a
-appends (level.Sign n) s a = gives_code n s a
-appends level.Empty s a = append_page s a
-appends level.Waits s a = Err Arg
+abbrev pub appends : Modifiers → Level → State → Arguments → Made
+appends m (level.Value n) s a = gives_code n s a
+appends m (level.Sign n) s a = gives_code n s a
+appends m level.Empty s a = append_page m s a
+appends m level.Waits s a = Err Arg
 
--- nA gives the code of the character after the place n from the pointer, or -1 where none is there; A reads a page.
-abbrev pub append : State → Arguments → Made
-append s a = appends (level_of a.expression) s a
+-- nA gives the code of the character after the place n from the pointer, or -1 where none is there, with a colon too; A reads a page.
+abbrev pub append : Modifiers → State → Arguments → Made
+append m s a = appends m (level_of a.expression) s a
 
 -- A value or a command, by what the level has.
-abbrev pub at_level : LevelCommand → State → Arguments → Made
-at_level level_command.Append s a = append s a
-at_level level_command.Decimal s a = decimal s a
+abbrev pub at_level : Modifiers → LevelCommand → State → Arguments → Made
+at_level m level_command.Append s a = append m s a
+at_level m level_command.Decimal s a = decimal s a

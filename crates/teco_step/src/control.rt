@@ -10,12 +10,26 @@ use crate::failure::Failure;
 use crate::next::Next;
 use crate::taking::{takes_none, takes_one_or, truth};
 use teco_core::{Args, Code, Reg};
+use teco_scan::Modifiers;
 use teco_store::Desk;
 
-/// `n;` leaves the innermost iteration where n is at least 0, and without n by the last search result. Where no iteration of the same
-/// text is open it is [`Code::Sni`].
-pub fn leave_or_not<D: Desk>(desk: &D, inside: bool, args: &mut Args) -> Result<Next, Failure>
-    ensures does { Acts D.Desk (steers (control.leave_or_not inside))
+/// Whether an iteration is left by n: where it is at least 0, and with a colon where it is below 0.
+#[inline(always)]
+fn is_left(modifiers: Modifiers, n: i32) -> bool
+    ensures { result ≡ control.is_left modifiers n }
+{
+    if modifiers.colons == 1 { n < 0 } else { n >= 0 }
+}
+
+/// `n;` leaves the innermost iteration where n is at least 0, and without n by the last search result. With a colon it leaves where it
+/// would go on. Where no iteration of the same text is open it is [`Code::Sni`].
+pub fn leave_or_not<D: Desk>(
+    desk: &D,
+    modifiers: Modifiers,
+    inside: bool,
+    args: &mut Args,
+) -> Result<Next, Failure>
+    ensures does { Acts D.Desk (steers (control.leave_or_not modifiers inside))
         (desk.now, args.old) (desk.now, args.new) result }
     ensures no_memory { result ≡ Err Memory → ⊥ }
 {
@@ -24,7 +38,7 @@ pub fn leave_or_not<D: Desk>(desk: &D, inside: bool, args: &mut Args) -> Result<
         return Err(Failure::Command(Code::Sni));
     }
     args.clear();
-    if n < 0 {
+    if !is_left(modifiers, n) {
         return Ok(Next::On);
     }
     Ok(Next::Leave)

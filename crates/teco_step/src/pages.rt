@@ -1,36 +1,92 @@
 //! Pages of the input, what is written to the output, and the exit. A command that is not done keeps the arguments and the state.
-ghost use Rattle.std.specs.Prelude.{◌≡◌, ◌≤◌, false, length};
+ghost use Rattle.std.specs.Prelude.{◌≡◌, ◌≤◌, Err, IfErr, Ok, OnOk, false, if◌then◌else◌, length};
+ghost use Rattle.teco_core.specs.Arguments.{no_arguments};
 ghost use Rattle.teco_core.specs.ArgumentsView.{arguments};
-ghost use Rattle.teco_step.specs.Families.{Acts, Takes, tag_of};
+ghost use Rattle.teco_step.specs.Families.{Acts, Takes, failure_of, tag_of};
 ghost use Rattle.teco_step.specs.Pages as pages;
+ghost use Rattle.teco_step.specs.Searching as searching;
 ghost use Rattle.teco_step.specs.Step.{goes, steers};
 ghost use Rattle.teco_step.specs.Ending.{end_of, is_unfinished};
 
 use crate::failure::{Failure, done};
 use crate::next::{Next, Work};
+use crate::searching::answer;
 use crate::taking::{range_between, taken, takes_none, takes_one_or, text_length};
 use std::ops::Range;
 use teco_core::{Args, Code, Taken};
-use teco_store::Desk;
+use teco_scan::Modifiers;
+use teco_store::{Desk, Refused};
 
-/// `Y`: the next page replaces the buffer. Where the buffer isn't empty it is [`Code::Yca`].
-pub fn next_page<D: Desk>(desk: &mut D, args: &mut Args) -> Result<Next, Failure>
-    ensures { Acts D.Desk (goes pages.next_page) (desk.old, args.old) (desk.new, args.new) result }
+/// Whether there is a page to read.
+#[inline(always)]
+fn has_page<D: Desk>(desk: &D) -> bool
+    ensures { result ≡ pages.has_page (D.state desk.now) }
+{
+    !desk.is_input_over()
+}
+
+/// What a command leads to by the answer of its call of the desk. If that was done, whether there was a page is left where it is asked for.
+#[inline(always)]
+fn tell(
+    answered: Result<(), Refused>,
+    next: Next,
+    asked: bool,
+    there: bool,
+    args: &mut Args,
+) -> Result<Next, Failure>
+    ensures ok { OnOk answered ((result ≡ Ok next)
+        × (arguments args.new ≡ (if asked then searching.answer there else no_arguments))) }
+    ensures err { IfErr answered (λ refused. (result ≡ Err (failure_of refused))
+        × (arguments args.new ≡ arguments args.old)) }
+{
+    answered?;
+    answer(asked, there, args);
+    Ok(next)
+}
+
+/// `Y`: the next page replaces the buffer. Where the buffer isn't empty it is [`Code::Yca`]. With a colon it gives whether there was a page.
+pub fn next_page<D: Desk>(
+    desk: &mut D,
+    modifiers: Modifiers,
+    args: &mut Args,
+) -> Result<Next, Failure>
+    ensures { Acts D.Desk (goes (pages.next_page modifiers))
+        (desk.old, args.old) (desk.new, args.new) result }
 {
     takes_none(args)?;
     if text_length(desk) > 0 {
         return Err(Failure::Command(Code::Yca));
     }
-    done(desk.read_page(), Next::On, args)
+    let there = has_page(desk);
+    tell(
+        desk.read_page(),
+        Next::On,
+        modifiers.colons == 1,
+        there,
+        args,
+    )
 }
 
-/// `A`: the next page comes after the text of the buffer, and the pointer stays. With no input left nothing changes.
+/// `A`: the next page comes after the text of the buffer, and the pointer stays. With no input left nothing changes. With a colon it gives
+/// whether there was a page.
 #[inline(never)]
-pub(crate) fn append_page<D: Desk>(desk: &mut D, args: &mut Args) -> Result<Next, Failure>
-    ensures { Acts D.Desk (goes pages.append_page) (desk.old, args.old) (desk.new, args.new) result }
+pub(crate) fn append_page<D: Desk>(
+    desk: &mut D,
+    modifiers: Modifiers,
+    args: &mut Args,
+) -> Result<Next, Failure>
+    ensures { Acts D.Desk (goes (pages.append_page modifiers))
+        (desk.old, args.old) (desk.new, args.new) result }
 {
     takes_none(args)?;
-    done(desk.append_page(), Next::On, args)
+    let there = has_page(desk);
+    tell(
+        desk.append_page(),
+        Next::On,
+        modifiers.colons == 1,
+        there,
+        args,
+    )
 }
 
 /// The pages that are left to turn. A number that isn't above 0 is [`Code::Ipa`].
@@ -63,16 +119,28 @@ fn after_page<D: Desk>(desk: &D, n: i32) -> Next
     })
 }
 
-/// `nP`: one page is written, and the next one replaces it; the pages that are left after it are further steps.
+/// Whether a step of `P` gives an answer: with a colon that of the last page does.
+fn is_asked(modifiers: Modifiers, n: i32) -> bool
+    ensures { result ≡ pages.is_asked modifiers n }
+{
+    modifiers.colons == 1 && n <= 1
+}
+
+/// `nP`: one page is written, and the next one replaces it; the pages that are left after it are further steps. With a colon the last one
+/// gives whether there was a page to read.
 pub fn turn_pages<D: Desk>(
     desk: &mut D,
+    modifiers: Modifiers,
     work: Option<Work>,
     args: &mut Args,
 ) -> Result<Next, Failure>
-    ensures { Acts D.Desk (steers (pages.turn_pages work)) (desk.old, args.old) (desk.new, args.new) result }
+    ensures { Acts D.Desk (steers (pages.turn_pages modifiers work))
+        (desk.old, args.old) (desk.new, args.new) result }
 {
     let n = pages_left(work, args)?;
-    done(desk.turn_page(), after_page(desk, n), args)
+    let there = has_page(desk);
+    let asked = is_asked(modifiers, n);
+    tell(desk.turn_page(), after_page(desk, n), asked, there, args)
 }
 
 /// Writes a range of the buffer, and a form feed where one is asked for. The command is then done, and its arguments gone.

@@ -1,5 +1,5 @@
 //! Commands on the number and the text of a register. One that is not done keeps the arguments and the state.
-ghost use Rattle.std.specs.Prelude.{◌≡◌, ◌≤◌, length, pos, Err, IfErr, IfOk, Ok};
+ghost use Rattle.std.specs.Prelude.{◌≡◌, ◌≤◌, ◌++◌, length, pos, Err, IfErr, IfOk, Ok};
 ghost use Rattle.teco_core.specs.ArgumentsView.{arguments};
 ghost use Rattle.teco_core.specs.Arguments.{emptied, give};
 ghost use Rattle.teco_core.specs.Register.{content};
@@ -11,7 +11,7 @@ ghost use Rattle.teco_step.specs.declared.failure.Failure.TheVariants.{Memory};
 
 use crate::edit::put;
 use crate::failure::{Failure, done};
-use crate::joining::joined;
+use crate::joining::{joined, joined_after};
 use crate::next::Next;
 use crate::taking::{given, sum, takes_none, takes_one, takes_reach};
 use crate::typing::type_text;
@@ -122,29 +122,58 @@ pub(crate) fn copy<D: Desk>(desk: &D, q: Reg, bytes: &[u8]) -> Result<Vec<u8>, F
     }
 }
 
-/// `^Uqtext$`: the text of q becomes this one. A text past its limit is [`Code::Big`].
+/// `^Uqtext$`: the text of q becomes this one, and with a colon it comes behind the text of q. A text past its limit is [`Code::Big`].
 pub fn set_text<D: Desk>(
     desk: &mut D,
+    modifiers: Modifiers,
     q: Reg,
     text: &[u8],
     args: &mut Args,
 ) -> Result<Next, Failure>
-    ensures { Acts D.Desk (goes (registers.set_text q text.now))
+    ensures { Acts D.Desk (goes (registers.set_text modifiers q text.now))
         (desk.old, args.old) (desk.new, args.new) result }
 {
     takes_none(args)?;
+    if modifiers.colons == 1 {
+        let both = joined(desk, desk.registers().text(q), text)?;
+        return done(desk.set_text(q, both), Next::On, args);
+    }
     let text = copy(desk, q, text)?;
     done(desk.set_text(q, text), Next::On, args)
 }
 
-/// `nXq`: what n lines reach becomes the text of q, and with `m,nXq` the range.
-pub fn extract<D: Desk>(desk: &mut D, q: Reg, args: &mut Args) -> Result<Next, Failure>
-    ensures { Acts D.Desk (goes (registers.extract q)) (desk.old, args.old) (desk.new, args.new) result }
+/// What comes to q of a range in two parts, in memory of its own: with a colon the text of q comes before it.
+fn extracted<D: Desk>(
+    desk: &D,
+    modifiers: Modifiers,
+    q: Reg,
+    first: &[u8],
+    second: &[u8],
+) -> Result<Vec<u8>, Failure>
+    ensures ok { IfOk result (λ text. text.items
+        ≡ registers.kept modifiers q (D.state desk.now) ++ (first.now ++ second.now)) }
+    ensures err { IfErr result (λ failure. failure ≡ Memory) }
+{
+    if modifiers.colons == 1 {
+        return joined_after(desk, desk.registers().text(q), first, second);
+    }
+    joined(desk, first, second)
+}
+
+/// `nXq`: what n lines reach becomes the text of q, and with `m,nXq` the range. With a colon it comes behind the text of q.
+pub fn extract<D: Desk>(
+    desk: &mut D,
+    modifiers: Modifiers,
+    q: Reg,
+    args: &mut Args,
+) -> Result<Next, Failure>
+    ensures { Acts D.Desk (goes (registers.extract modifiers q))
+        (desk.old, args.old) (desk.new, args.new) result }
 {
     let range = takes_reach(desk, args)?;
     let (before, after) = desk.halves();
     let (first, second) = part(before, after, range.start, range.end);
-    let text = joined(desk, first, second)?;
+    let text = extracted(desk, modifiers, q, first, second)?;
     done(desk.set_text(q, text), Next::On, args)
 }
 

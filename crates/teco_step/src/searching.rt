@@ -155,7 +155,7 @@ pub(crate) fn noted_text(text: &[u8]) -> Option<&[u8]>
 
 /// Leaves the result as the one argument where it is asked for, else none.
 #[tactic(auto, unfolding(teco_core::specs::Arguments::give))]
-fn answer(asked: bool, found: bool, args: &mut Args)
+pub(crate) fn answer(asked: bool, found: bool, args: &mut Args)
     ensures { arguments args.new ≡ (if asked then searching.answer found else no_arguments) }
 {
     args.clear();

@@ -42,13 +42,13 @@ fn command_step<D: Desk, T: Terminal>(
         Command::TypeByte => typing::type_byte(desk, args, term),
         Command::Print => typing::print(desk, false, setting.modifiers, args, term),
         Command::PrintOctal => typing::print(desk, true, setting.modifiers, args, term),
-        Command::Leave => control::leave_or_not(desk, setting.inside, args),
+        Command::Leave => control::leave_or_not(desk, setting.modifiers, setting.inside, args),
         Command::Back => edit::back(desk, args),
         Command::Line => edit::to_line(desk, args),
         Command::Delete => edit::delete(desk, args),
         Command::Kill => edit::kill(desk, args),
-        Command::NextPage => pages::next_page(desk, args),
-        Command::TurnPages => pages::turn_pages(desk, setting.work, args),
+        Command::NextPage => pages::next_page(desk, setting.modifiers, args),
+        Command::TurnPages => pages::turn_pages(desk, setting.modifiers, setting.work, args),
         Command::WritePage => pages::write_page(desk, args),
         Command::Exit => pages::exit(desk, args),
         Command::CaseMode => case::set_case(desk, args),
@@ -72,7 +72,7 @@ fn bare_step<D: Desk, T: Terminal>(
         Bare::Quantity(which) => value::quantity(desk, which, args),
         Bare::Arithmetic(which) => value::arithmetic(desk, which, args),
         Bare::Command(command) => command_step(desk, command, setting, args, term),
-        Bare::Level(command) => value::at_level(desk, command, args),
+        Bare::Level(command) => value::at_level(desk, setting.modifiers, command, args),
     }
 }
 
@@ -95,7 +95,7 @@ fn register_step<D: Desk, T: Terminal>(
         RegisterCommand::Increment => registers::increment(desk, q, args),
         RegisterCommand::Set => registers::set_number(desk, q, args),
         RegisterCommand::Macro => control::run_register(desk, q, args),
-        RegisterCommand::Extract => registers::extract(desk, q, args),
+        RegisterCommand::Extract => registers::extract(desk, setting.modifiers, q, args),
         RegisterCommand::Get => registers::get(desk, setting.modifiers, q, args, term),
         RegisterCommand::Push => registers::push(desk, q, args),
         RegisterCommand::Pop => registers::pop(desk, q, args),
@@ -170,7 +170,9 @@ fn item_step<D: Desk, T: Terminal, P: Patience>(
                 patience,
             )
         }
-        Item::SetText(q, span) => registers::set_text(desk, q, bytes_of(text, span), args),
+        Item::SetText(q, span) => {
+            registers::set_text(desk, setting.modifiers, q, bytes_of(text, span), args)
+        }
         Item::Byte(code) => value::byte(desk, code, args),
         Item::Replace(old, new) => {
             let (old, new) = (bytes_of(text, old), bytes_of(text, new));

@@ -15,7 +15,7 @@ use crate::pages::append_page;
 use crate::registers::give_alone;
 use crate::taking::{decimal, place_after, text_length, truth};
 use teco_core::{Args, Code, Level};
-use teco_scan::{Arithmetic, LevelCommand, Quantity};
+use teco_scan::{Arithmetic, LevelCommand, Modifiers, Quantity};
 use teco_store::Desk;
 
 /// Gives a value.
@@ -134,15 +134,15 @@ fn give_code<D: Desk>(desk: &D, n: i32, args: &mut Args) -> Result<Next, Failure
     Ok(Next::On)
 }
 
-/// `nA` gives the code of a character. `A` without n reads a page.
+/// `nA` gives the code of a character, with a colon too. `A` without n reads a page.
 #[inline(always)]
-fn append<D: Desk>(desk: &mut D, args: &mut Args) -> Result<Next, Failure>
-    ensures { Acts D.Desk (goes values.append) (desk.old, args.old) (desk.new, args.new) result }
+fn append<D: Desk>(desk: &mut D, modifiers: Modifiers, args: &mut Args) -> Result<Next, Failure>
+    ensures { Acts D.Desk (goes (values.append modifiers)) (desk.old, args.old) (desk.new, args.new) result }
 {
     match args.level() {
         Level::Value(n) => give_code(desk, n, args),
         Level::Sign(n) => give_code(desk, n, args),
-        Level::Empty => append_page(desk, args),
+        Level::Empty => append_page(desk, modifiers, args),
         Level::Waits => Err(Failure::Command(Code::Arg)),
     }
 }
@@ -151,13 +151,15 @@ fn append<D: Desk>(desk: &mut D, args: &mut Args) -> Result<Next, Failure>
 #[inline(always)]
 pub fn at_level<D: Desk>(
     desk: &mut D,
+    modifiers: Modifiers,
     command: LevelCommand,
     args: &mut Args,
 ) -> Result<Next, Failure>
-    ensures { Acts D.Desk (goes (values.at_level command)) (desk.old, args.old) (desk.new, args.new) result }
+    ensures { Acts D.Desk (goes (values.at_level modifiers command))
+        (desk.old, args.old) (desk.new, args.new) result }
 {
     match command {
-        LevelCommand::Append => append(desk, args),
+        LevelCommand::Append => append(desk, modifiers, args),
         LevelCommand::Decimal => decimal_at_level(desk, args),
     }
 }

@@ -1,4 +1,5 @@
 //! Of teco_step: command strings, what they type, and the code by which they end.
+mod colons;
 pub(crate) mod edits;
 pub(crate) mod failed_searches;
 mod lines;

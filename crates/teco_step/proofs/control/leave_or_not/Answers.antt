@@ -16,7 +16,7 @@ returns-in_err-n-clause-does g c =
     let fits : FitsSigned w32 c.truth.result = search rules in
     let given = to_z-of_z w32 c.truth.result fits ∙ c.truth.ensures ∙ ap truth c.last_result.ensures in
     let refused = subst (λ n. IsRefusal h (takes_one_or n a)) given c.in_err-n.ensures in
-    acts_refused (steers (leave_or_not c.args.inside)) s a _ h c.from_residual.result c.from_residual.ensures.1 (refusal_then h _ _ refused)
+    acts_refused (steers (leave_or_not c.args.modifiers c.args.inside)) s a _ h c.from_residual.result c.from_residual.ensures.1 (refusal_then h _ _ refused)
 
 pub returns-in_err-n-clause-no_memory : goal.returns-in_err-n-clause-no_memory
 returns-in_err-n-clause-no_memory g c = refused_not_memory _ _ c.from_residual.result c.from_residual.ensures.1 c.in_err-n.ensures
