@@ -1,5 +1,5 @@
 -- A text that a token puts into a register is shorter than the token.
-use Rattle.std.proofs.Common.{◌≡◌, ℕ, zero, suc, Bool, true, false, Some, None, ◌+◌, ◌-◌, ◌<◌, ◌≤◌, List, [], ◌∷◌, ◌++◌, length, length-append, length-drop, drop, Result, Ok, Err, refl, sym, ap, subst, ◌∙◌, arith}
+use Rattle.std.proofs.Common.{◌≡◌, ℕ, zero, suc, Bool, true, false, Some, None, ◌+◌, ◌-◌, ◌<◌, ◌≤◌, List, [], ◌∷◌, ◌++◌, length, length-append, length-drop, drop, Result, Ok, Err, refl, sym, ap, subst, ◌∙◌, eqb, arith}
 use Rattle.std.proofs.lemmas.List.{length-take-le}
 use Rattle.teco_core.specs.declared.code.Code.{Code}
 use Rattle.teco_scan.specs.declared.command.Form.{Form}
@@ -16,12 +16,13 @@ use Rattle.teco_scan.specs.Scan.{Instruction, TokenMeaning, step, set_text, foun
 use Rattle.teco_scan.specs.Seen.{IsTokenAt, IsSpanIn, IsKindIn, item_in, meaning_in, bytes_in, instruction_in}
 use Rattle.teco_scan.specs.Spelling.{Spells, run_spelled, command_spelled, SpellsOperand, bare_spelled, mark_spelled, escape_spelled, register_spelled, byte_spelled, test_spelled, text_spelled, tag_spelled, set_text_spelled, replace_spelled, IsSpelled}
 use Rattle.teco_check.specs.Checked.{inner_length, held, may_hold}
-use Rattle.teco_check.specs.Clean.{is_fine, clean_within}
+use Rattle.teco_check.specs.Clean.{is_fine, is_whole, clean_within}
 use Rattle.teco_scan.specs.Walk.{OpenList}
 use Rattle.teco_check.specs.Walk.{wrong_with, rule}
 use Rattle.teco_check.specs.declared.faults.Wrong.TheVariants as wrongs
 use Rattle.teco_scan.specs.Tree.{Nodes}
-use Rattle.std.specs.Prelude.{not, ◌||◌, if◌then◌else◌}
+use Rattle.std.specs.Prelude.{not, ◌||◌, ◌&&◌, if◌then◌else◌}
+use Rattle.std.proofs.lemmas.Bool.{false_from_ne_true, eqb-true}
 use Rattle.teco_exec.proofs.Placings.{fillers_twice}
 
 operand_long : (f : Form) (m : Modifiers) (i : Instruction) (bs : List ℕ) (q : ℕ) (x : List ℕ) → SpellsOperand f m i bs → i ≡ step (set_text q x) → length x + 2 ≤ length bs
@@ -97,18 +98,39 @@ token_long spelled bs next t at e = of_kind t.kind refl
 abbrev pub a_text : ℕ → Span → SpannedItem
 a_text q s = items.SetText q s
 
-pub fine_text : (n : ℕ) (code : List Bool) (text : List ℕ) (lists : List Nodes) (item : SpannedItem) (q : ℕ) (s : Span) (v : Bool) → item ≡ a_text q s → held code q ≡ true → may_hold n code (bytes_in text s) ≡ v
-    → is_fine (held code) (may_hold n code) lists (item_in text item) ≡ v
-fine_text n code text lists item q s v is h m =
-    ap (λ (x : SpannedItem). is_fine (held code) (may_hold n code) lists (item_in text x)) is
-    ∙ ap (λ (b : Bool). not b || may_hold n code (bytes_in text s)) h ∙ m
+pub fine_text : (n : ℕ) (code : List Bool) (text : List ℕ) (lists : List Nodes) (marks : Modifiers) (item : SpannedItem) (q : ℕ) (s : Span) (v : Bool) → item ≡ a_text q s → held code q ≡ true
+    → is_whole marks && may_hold n code (bytes_in text s) ≡ v → is_fine (held code) (may_hold n code) lists marks (item_in text item) ≡ v
+fine_text n code text lists marks item q s v is h m =
+    ap (λ (x : SpannedItem). is_fine (held code) (may_hold n code) lists marks (item_in text x)) is
+    ∙ ap (λ (b : Bool). not b || (is_whole marks && may_hold n code (bytes_in text s))) h ∙ m
 
-pub wrong_text : (n : ℕ) (code : List Bool) (text : List ℕ) (lists : List OpenList) (item : SpannedItem) (q : ℕ) (s : Span) (v : Bool) → item ≡ a_text q s → held code q ≡ true → may_hold n code (bytes_in text s) ≡ v
-    → wrong_with (rule n code) text lists (item_in text item) ≡ (if v then None else Some wrongs.InText)
-wrong_text n code text lists item q s v is h m =
-    ap (λ (x : SpannedItem). wrong_with (rule n code) text lists (item_in text x)) is
-    ∙ ap (λ (b : Bool). if b then (if may_hold n code (bytes_in text s) then None else Some wrongs.InText) else None) h
-    ∙ ap (λ (b : Bool). if b then None else Some wrongs.InText) m
+-- with a colon a text is not whole, and without one it is
+pub behind_is : (marks : Modifiers) → marks.colons ≡ 1 → is_whole marks ≡ false
+behind_is marks e = ap (λ (n : ℕ). not (eqb n 1)) e
+
+pub whole_is : (marks : Modifiers) → (marks.colons ≡ 1 → ⊥) → is_whole marks ≡ true
+whole_is marks whole = ap not (false_from_ne_true (eqb marks.colons 1) (λ x. whole (eqb-true marks.colons 1 x)))
+
+-- a whole text may be put there if its bytes may, and one that is not may not
+pub whole_may : (marks : Modifiers) (may v : Bool) → is_whole marks ≡ true → may ≡ v → is_whole marks && may ≡ v
+whole_may marks may v whole e = ap (λ (b : Bool). b && may) whole ∙ e
+
+pub behind_may : (marks : Modifiers) (may : Bool) → is_whole marks ≡ false → is_whole marks && may ≡ false
+behind_may marks may behind = ap (λ (b : Bool). b && may) behind
+
+module _ (n : ℕ) (code : List Bool) (text : List ℕ) (lists : List OpenList) (marks : Modifiers) (item : SpannedItem) (q : ℕ) (s : Span) (is : item ≡ a_text q s) (h : held code q ≡ true) where
+  put_there : wrong_with (rule n code) text lists marks (item_in text item) ≡ (if is_whole marks then (if may_hold n code (bytes_in text s) then None else Some wrongs.InText) else Some wrongs.Loads)
+  put_there =
+      ap (λ (x : SpannedItem). wrong_with (rule n code) text lists marks (item_in text x)) is
+      ∙ ap (λ (b : Bool). if b then (if is_whole marks then (if may_hold n code (bytes_in text s) then None else Some wrongs.InText) else Some wrongs.Loads) else None) h
+
+  pub wrong_text : (v : Bool) → is_whole marks ≡ true → may_hold n code (bytes_in text s) ≡ v → wrong_with (rule n code) text lists marks (item_in text item) ≡ (if v then None else Some wrongs.InText)
+  wrong_text v whole m =
+      put_there ∙ ap (λ (b : Bool). if b then (if may_hold n code (bytes_in text s) then None else Some wrongs.InText) else Some wrongs.Loads) whole
+      ∙ ap (λ (b : Bool). if b then None else Some wrongs.InText) m
+
+  pub wrong_behind : is_whole marks ≡ false → wrong_with (rule n code) text lists marks (item_in text item) ≡ Some wrongs.Loads
+  wrong_behind behind = put_there ∙ ap (λ (b : Bool). if b then (if may_hold n code (bytes_in text s) then None else Some wrongs.InText) else Some wrongs.Loads) behind
 
 one_fewer : (n : ℕ) → (n ≡ 0 → ⊥) → n ≡ suc (n - 1)
 one_fewer n some = omega (arith, some)

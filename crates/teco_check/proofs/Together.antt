@@ -5,6 +5,7 @@ use Rattle.teco_core.specs.Ascii.{is_filler}
 use Rattle.teco_scan.specs.declared.breaks.ListFault.{ListFault}
 use Rattle.teco_scan.specs.declared.command.BlockMark.{BlockMark}
 use Rattle.teco_scan.specs.declared.command.BlockMark.TheVariants.{Iterate, EndIteration, Otherwise, EndTest}
+use Rattle.teco_scan.specs.declared.command.Modifiers.{Modifiers}
 use Rattle.teco_scan.specs.declared.command.RegisterCommand.TheVariants as registers
 use Rattle.teco_scan.specs.declared.command.TextCommand.TheVariants as texts
 use Rattle.teco_scan.specs.declared.blocks.Kind.{Kind}
@@ -19,8 +20,9 @@ use Rattle.teco_check.specs.declared.faults.Fault.{Fault}
 use Rattle.teco_check.specs.declared.faults.Wrong.{Wrong}
 use Rattle.teco_check.specs.declared.faults.Wrong.TheVariants as wrongs
 use Rattle.teco_check.specs.Checked.{code_of}
+use Rattle.teco_check.specs.Clean.{is_whole}
 use Rattle.teco_check.specs.OneBreak.{IsOneBreak}
-use Rattle.teco_check.specs.Walk.{CodeRule, by_check, first_within, lands_in, told_break, told_item, wrong_with, rule}
+use Rattle.teco_check.specs.Walk.{CodeRule, by_check, first_within, lands_in, marks_at, told_break, told_item, wrong_with, rule}
 use Rattle.teco_check.proofs.Places.{scan_same}
 
 -- Two walks by two rules, over one token: what holds of both where they go on, and where either tells a break, holds here.
@@ -88,31 +90,35 @@ token_short : (bs : List ℕ) (t : TokenMeaning) (more : List ℕ) → scan bs �
 token_short bs t more e = scan_short (after_fillers bs) t more (scan_same bs (after_fillers bs) refl ∙ e)
 
 -- what is wrong with an item has no code by which a run ends
-wrong_uncoded : (code : CodeRule) (bytes : List ℕ) (lists : List OpenList) (i : Item) → IfSome (wrong_with code bytes lists i) (λ w. code_of w ≡ None)
-wrong_uncoded code bytes lists (token.digits ds) = tt
-wrong_uncoded code bytes lists (token.bare b) = tt
-wrong_uncoded code bytes lists (token.byte b) = tt
-wrong_uncoded code bytes lists (token.replace old new) = tt
-wrong_uncoded code bytes lists (token.register c q) = of_register c
+wrong_uncoded : (code : CodeRule) (bytes : List ℕ) (lists : List OpenList) (m : Modifiers) (i : Item) → IfSome (wrong_with code bytes lists m i) (λ w. code_of w ≡ None)
+wrong_uncoded code bytes lists m (token.digits ds) = tt
+wrong_uncoded code bytes lists m (token.bare b) = tt
+wrong_uncoded code bytes lists m (token.byte b) = tt
+wrong_uncoded code bytes lists m (token.replace old new) = tt
+wrong_uncoded code bytes lists m (token.register c q) = of_register c
   where
-    of_register : (c : _) → IfSome (wrong_with code bytes lists (token.register c q)) (λ w. code_of w ≡ None)
+    of_register : (c : _) → IfSome (wrong_with code bytes lists m (token.register c q)) (λ w. code_of w ≡ None)
     of_register registers.Macro = elim (code.holds q) as (λ v. IfSome (choose v None (Some wrongs.Calls)) (λ w. code_of w ≡ None)) [ true ↦ tt | false ↦ refl ]
     of_register registers.Extract = elim (code.holds q) as (λ v. IfSome (choose v (Some wrongs.Loads) None) (λ w. code_of w ≡ None)) [ true ↦ refl | false ↦ tt ]
     of_register registers.Pop = elim (code.holds q) as (λ v. IfSome (choose v (Some wrongs.Loads) None) (λ w. code_of w ≡ None)) [ true ↦ refl | false ↦ tt ]
     of_register c = tt
-wrong_uncoded code bytes lists (token.text c name) = of_text c
+wrong_uncoded code bytes lists m (token.text c name) = of_text c
   where
-    of_text : (c : _) → IfSome (wrong_with code bytes lists (token.text c name)) (λ w. code_of w ≡ None)
+    of_text : (c : _) → IfSome (wrong_with code bytes lists m (token.text c name)) (λ w. code_of w ≡ None)
     of_text texts.Go = elim (lands_in bytes lists name) as (λ v. IfSome (choose v None (Some wrongs.NoTag)) (λ w. code_of w ≡ None)) [ true ↦ tt | false ↦ refl ]
     of_text c = tt
-wrong_uncoded code bytes lists (token.set_text q t) = of_hold (code.holds q)
+wrong_uncoded code bytes lists m (token.set_text q t) = of_hold (code.holds q)
   where
     of_may : (v : Bool) → IfSome (choose v None (Some wrongs.InText)) (λ w. code_of w ≡ None)
     of_may true = tt
     of_may false = refl
 
-    of_hold : (v : Bool) → IfSome (choose v (choose (code.may t) None (Some wrongs.InText)) None) (λ w. code_of w ≡ None)
-    of_hold true = of_may (code.may t)
+    of_whole : (v : Bool) → IfSome (choose v (choose (code.may t) None (Some wrongs.InText)) (Some wrongs.Loads)) (λ w. code_of w ≡ None)
+    of_whole true = of_may (code.may t)
+    of_whole false = refl
+
+    of_hold : (v : Bool) → IfSome (choose v (choose (is_whole m) (choose (code.may t) None (Some wrongs.InText)) (Some wrongs.Loads)) None) (λ w. code_of w ≡ None)
+    of_hold true = of_whole (is_whole m)
     of_hold false = tt
 
 module _ (text : List ℕ) where
@@ -182,7 +188,7 @@ module _ (text : List ℕ) where
         (scans ListFault Fault by_spelling (by_check code text) spelled (walk (by_check code text) text) text Beside (scan bs) at o os
         (record { breaks = λ b a. inl (record { at = at; broken = b; list = a; by_run = refl; by_check = refl }); none = refl })
         (λ t more e. record { on = λ a around. onward a around t more e })
-        (λ t more e x. item_beside code at (wrong_with code text (o ∷ os) x) o os more (wrong_uncoded code text (o ∷ os) x)
+        (λ t more e x. item_beside code at (wrong_with code text (o ∷ os) (marks_at text at) x) o os more (wrong_uncoded code text (o ∷ os) (marks_at text at) x)
         (omega (arith, inside, fillers_short bs, token_short bs t more e)) (onward o os t more e))));
   }
 

@@ -89,7 +89,7 @@ module _ (code : ℕ → Bool) (may : List ℕ → Bool) (lists : List Nodes) (k
     unfolding is_clean
     decide_deep t e = ap (λ (b : Bool). Clean (choose b (wrong Pdo) (cond_at list_at k d t (list_at (Some Then) (suc d) bs)))) (eq-eqb d 64 e)
 
-    pub item_clean : (i : Item) (v : Bool) → is_fine code may lists i ≡ v → Clean (at_instruction list_at (token.step i) m bs k d) ≡ v && Clean (list_at k d bs)
+    pub item_clean : (i : Item) (v : Bool) → is_fine code may lists m i ≡ v → Clean (at_instruction list_at (token.step i) m bs k d) ≡ v && Clean (list_at k d bs)
     unfolding is_clean
     item_clean i v e = ap (λ (b : Bool). b && Clean (list_at k d bs)) e
 
@@ -139,7 +139,7 @@ closing_is (token.tag name) b is = absurd cc
 closing_is token.escape b is = absurd cc
 
 pub item_rest : (code : ℕ → Bool) (may : List ℕ → Bool) (lists : List Nodes) (k : Option Kind) (d : ℕ) (m : Modifiers) (text : List ℕ) (to : ℕ) (i : Item) (r : Result ℕ Fault)
-    → IfOk r (λ x. x ≡ to) → is_fine code may lists i ≡ is_ok r → is_clean code may lists (at_instruction list_at (token.step i) m (drop to text) k d).0 ≡ rest_clean code may lists text k d r
+    → IfOk r (λ x. x ≡ to) → is_fine code may lists m i ≡ is_ok r → is_clean code may lists (at_instruction list_at (token.step i) m (drop to text) k d).0 ≡ rest_clean code may lists text k d r
 item_rest code may lists k d m text to i (Ok x) same e = item_clean code may lists k d m (drop to text) i true e ∙ ap (λ (n : ℕ). is_clean code may lists (list_at k d (drop n text)).0) (sym same)
 item_rest code may lists k d m text to i (Err f) same e = item_clean code may lists k d m (drop to text) i false e
 

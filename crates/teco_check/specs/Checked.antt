@@ -62,6 +62,7 @@ suits wrongs.NoTag (step (text texts.Go name)) = true
 suits wrongs.Calls (step (register registers.Macro q)) = true
 suits wrongs.Loads (step (register registers.Extract q)) = true
 suits wrongs.Loads (step (register registers.Pop q)) = true
+suits wrongs.Loads (step (set_text q t)) = true
 suits wrongs.InText (step (set_text q t)) = true
 suits w i = false
 

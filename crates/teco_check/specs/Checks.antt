@@ -81,14 +81,14 @@ ListBreaks listed answer = (code : Code)
     → IfErr answer (λ fault. code_of fault.wrong ≡ Some code → listed.1 ≡ broken code)
 
 -- An item is fine, where these lists are open, exactly if this holds.
-abbrev pub ItemFine : CodeRule → List ℕ → List ℕ → ℕ → Item → Bool → Type 0
-ItemFine code text starts count item fine = (open_lists : List Nodes) → AreOpen text starts count open_lists
-    → is_fine code.holds code.may open_lists item ≡ fine
+abbrev pub ItemFine : CodeRule → List ℕ → List ℕ → ℕ → Modifiers → Item → Bool → Type 0
+ItemFine code text starts count m item fine = (open_lists : List Nodes) → AreOpen text starts count open_lists
+    → is_fine code.holds code.may open_lists m item ≡ fine
 
 -- The walk goes on after an item that is fine, or its fault is that of the answer.
-abbrev pub ItemFirst : CodeRule → List ℕ → List ℕ → ℕ → Item → ℕ → ℕ → Result ℕ Fault → Type 0
-ItemFirst code text starts count item from to answer = (list : OpenList) (around : List OpenList)
+abbrev pub ItemFirst : CodeRule → List ℕ → List ℕ → ℕ → Modifiers → Item → ℕ → ℕ → Result ℕ Fault → Type 0
+ItemFirst code text starts count m item from to answer = (list : OpenList) (around : List OpenList)
     → suc (length around) ≡ count → BeginThere text starts (list ∷ around)
-    → walked.after_item (check_walk code text) (told_item from (wrong_with code text (list ∷ around) item))
+    → walked.after_item (check_walk code text) (told_item from (wrong_with code text (list ∷ around) m item))
     list around (drop to text)
     ≡ after_node code text list around answer

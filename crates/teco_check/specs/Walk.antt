@@ -1,14 +1,16 @@
 -- The first fault that a check tells: of a walk over the tokens of a text, by the rule of a check.
 use Rattle.std.specs.Prelude.{ℕ, Bool, false, ◌||◌, List, [], ◌∷◌, length, drop, Option, Some, None, is_some, if◌then◌else◌}
+use Rattle.teco_scan.specs.declared.command.Modifiers.{Modifiers}
 use Rattle.teco_scan.specs.declared.command.TextCommand.TheVariants as texts
 use Rattle.teco_scan.specs.declared.command.RegisterCommand.TheVariants as registers
 use Rattle.teco_scan.specs.declared.blocks.Kind.{Kind}
-use Rattle.teco_scan.specs.Scan.{Item}
+use Rattle.teco_scan.specs.Scan.{Item, Scanned, found, no_modifiers, scan}
 use Rattle.teco_scan.specs.Scan as token
 use Rattle.teco_scan.specs.Lists.{tag_at}
 use Rattle.teco_scan.specs.Walk.{Break, unreadable, stray, unended, too_deep, OpenList, Rule, Walker, own_list}
 use Rattle.teco_scan.specs.Walk as walked
 use Rattle.teco_check.specs.Checked.{held, may_hold}
+use Rattle.teco_check.specs.Clean.{is_whole}
 use Rattle.teco_check.specs.declared.faults.Fault.{Fault}
 use Rattle.teco_check.specs.declared.faults.TheConstants.{MOST_TEXTS}
 use Rattle.teco_check.specs.declared.faults.Wrong.{Wrong}
@@ -25,14 +27,16 @@ pub record CodeRule : Type 0 where
   pub may : List ℕ → Bool
 
 -- What is wrong with an item: a jump lands nowhere; a register is called that holds no code; what is in the buffer or was pushed is
--- put where code is; or so is a text that has a fault.
-abbrev pub wrong_with : CodeRule → List ℕ → List OpenList → Item → Option Wrong
-wrong_with code bytes lists (token.text texts.Go name) = if lands_in bytes lists name then None else Some wrongs.NoTag
-wrong_with code bytes lists (token.register registers.Macro q) = if code.holds q then None else Some wrongs.Calls
-wrong_with code bytes lists (token.register registers.Extract q) = if code.holds q then Some wrongs.Loads else None
-wrong_with code bytes lists (token.register registers.Pop q) = if code.holds q then Some wrongs.Loads else None
-wrong_with code bytes lists (token.set_text q t) = if code.holds q then (if code.may t then None else Some wrongs.InText) else None
-wrong_with code bytes lists i = None
+-- put where code is, or what comes behind the text that is there; or so is a text that has a fault.
+abbrev pub wrong_with : CodeRule → List ℕ → List OpenList → Modifiers → Item → Option Wrong
+wrong_with code bytes lists m (token.text texts.Go name) = if lands_in bytes lists name then None else Some wrongs.NoTag
+wrong_with code bytes lists m (token.register registers.Macro q) = if code.holds q then None else Some wrongs.Calls
+wrong_with code bytes lists m (token.register registers.Extract q) = if code.holds q then Some wrongs.Loads else None
+wrong_with code bytes lists m (token.register registers.Pop q) = if code.holds q then Some wrongs.Loads else None
+wrong_with code bytes lists m (token.set_text q t) =
+    if code.holds q then (if is_whole m then (if code.may t then None else Some wrongs.InText) else Some wrongs.Loads)
+    else None
+wrong_with code bytes lists m i = None
 
 -- where a list is opened, if it is a block's
 abbrev pub opened_at : Option Kind → ℕ → Option ℕ
@@ -50,10 +54,18 @@ abbrev pub told_item : ℕ → Option Wrong → Option Fault
 told_item at None = None
 told_item at (Some wrong) = Some record { at = at; wrong = wrong }
 
+-- the modifiers of the token at a place
+abbrev pub marks_of : Scanned → Modifiers
+marks_of (found t rest) = t.modifiers
+marks_of s = no_modifiers
+
+abbrev pub marks_at : List ℕ → ℕ → Modifiers
+marks_at bytes at = marks_of (scan (drop at bytes))
+
 -- the rule of a check
 abbrev pub by_check : CodeRule → List ℕ → Rule Fault
 by_check code bytes =
-    record { breaks = told_break; item = λ at item lists. told_item at (wrong_with code bytes lists item) }
+    record { breaks = told_break; item = λ at item lists. told_item at (wrong_with code bytes lists (marks_at bytes at) item) }
 
 abbrev pub check_walk : CodeRule → List ℕ → Walker Fault
 check_walk code bytes list around rest = walked.walk (by_check code bytes) bytes list around rest

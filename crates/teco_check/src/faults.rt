@@ -24,8 +24,8 @@ use crate::jumps::{LISTS, gathered, lands_below};
 use std::alloc::Global;
 use teco_core::{BLOCK_LIMIT, Code, Reg};
 use teco_scan::{
-    Found, Item, Kind, RegisterCommand, SkipEnd, Tags, TextCommand, Token, TokenKind, block_laws,
-    closing_mark, filler_end, spelling, token_at,
+    Found, Item, Kind, Modifiers, RegisterCommand, SkipEnd, Span, Tags, TextCommand, Token,
+    TokenKind, block_laws, closing_mark, filler_end, spelling, token_at,
 };
 
 /// What is wrong.
@@ -43,7 +43,7 @@ pub enum Wrong {
     NoTag,
     /// A register is called that holds no code.
     Calls,
-    /// What is in the buffer, or what was pushed, is put where code is.
+    /// What is in the buffer, or what was pushed, is put where code is, or a text behind the one that is there.
     Loads,
     /// A text that has a fault is put where code is, or one that lies in as many others as are looked into.
     InText,
@@ -87,6 +87,7 @@ fn holds_code(code: &[bool; REGISTERS], item: &Item) -> bool
 fn wrong_of(
     text: &[u8],
     look: Look<'_, '_, '_>,
+    modifiers: Modifiers,
     item: Item,
     starts: &[usize; LISTS],
     count: usize,
@@ -97,9 +98,9 @@ fn wrong_of(
     requires short { item_length item < length text.now }
     requires tags { look.tags.now ≡ text.now }
     ensures fine { ItemFine (rule look.entry.texts look.entry.code.now) text.now starts.now count
-        (item_in text.now item) (is_none result) }
+        modifiers (item_in text.now item) (is_none result) }
     ensures first { (lists : List OpenList) → length lists ≡ count → BeginThere text.now starts.now lists
-        → result ≡ wrong_with (rule look.entry.texts look.entry.code.now) text.now lists (item_in text.now item) }
+        → result ≡ wrong_with (rule look.entry.texts look.entry.code.now) text.now lists modifiers (item_in text.now item) }
     ensures suits { IfSome result (λ wrong. suits wrong (step (item_in text.now item)) ≡ true) }
     ensures code { IfSome result (λ wrong. code_of wrong ≡ None) }
 {
@@ -127,6 +128,9 @@ fn wrong_of(
             if !holds {
                 return None;
             }
+            if modifiers.colons == 1 {
+                return Some(Wrong::Loads);
+            }
             if look.texts == 0 {
                 return Some(Wrong::InText);
             }
@@ -140,14 +144,14 @@ fn wrong_of(
     }
 }
 
-/// An item from one place to another, where so many lists are open: the place after it, if it is fine.
+/// The item of a token with this span and these modifiers, where so many lists are open: the place after it, if it is fine.
 #[cycle(check)]
 fn check_item(
     text: &[u8],
     look: Look<'_, '_, '_>,
+    span: Span,
+    modifiers: Modifiers,
     item: Item,
-    from: usize,
-    to: usize,
     starts: &[usize; LISTS],
     count: usize,
 ) -> Result<usize, Fault>
@@ -157,16 +161,20 @@ fn check_item(
     requires short { item_length item < length text.now }
     requires tags { look.tags.now ≡ text.now }
     ensures fine { ItemFine (rule look.entry.texts look.entry.code.now) text.now starts.now count
-        (item_in text.now item) (is_ok result) }
-    ensures place { IfOk result (λ x. x ≡ to) }
+        modifiers (item_in text.now item) (is_ok result) }
+    ensures place { IfOk result (λ x. x ≡ span.to) }
     ensures first { ItemFirst (rule look.entry.texts look.entry.code.now) text.now starts.now count
-        (item_in text.now item) from to result }
-    ensures suits { IfErr result (λ fault. (fault.at ≡ from) × (suits fault.wrong (step (item_in text.now item)) ≡ true)) }
+        modifiers (item_in text.now item) span.from span.to result }
+    ensures suits { IfErr result (λ fault. (fault.at ≡ span.from)
+        × (suits fault.wrong (step (item_in text.now item)) ≡ true)) }
     ensures code { IfErr result (λ fault. code_of fault.wrong ≡ None) }
 {
-    match wrong_of(text, look, item, starts, count) {
-        None => Ok(to),
-        Some(wrong) => Err(Fault { at: from, wrong }),
+    match wrong_of(text, look, modifiers, item, starts, count) {
+        None => Ok(span.to),
+        Some(wrong) => Err(Fault {
+            at: span.from,
+            wrong,
+        }),
     }
 }
 
@@ -227,8 +235,8 @@ fn check_node(
     requires token { scan (drop token.span.from text.now) ≡ found (meaning_in text.now token) (drop token.span.to text.now) }
     requires node { closing_mark (instruction_in text.now token.kind) ≡ None }
     requires tags { look.tags.now ≡ text.now }
-    ensures clean { (m : Modifiers) → NodeClean (rule look.entry.texts look.entry.code.now) text.now starts.now depth
-        (from_token text.now token m depth) result }
+    ensures clean { NodeClean (rule look.entry.texts look.entry.code.now) text.now starts.now depth
+        (from_token text.now token token.modifiers depth) result }
     ensures first { NodeFirst (rule look.entry.texts look.entry.code.now) text.now starts.now depth
         (walk_from_token (rule look.entry.texts look.entry.code.now) text.now token) result }
     ensures closes { (m : Modifiers) → NodeCloses text.now depth (from_token text.now token m depth) result }
@@ -238,6 +246,8 @@ fn check_node(
 {
     let from = token.span.from;
     let to = token.span.to;
+    let span = token.span;
+    let modifiers = token.modifiers;
     match token.kind {
         TokenKind::Mark(_) => {
             if depth == BLOCK_LIMIT {
@@ -258,7 +268,7 @@ fn check_node(
             }
             check_conditional(text, look, from, to, depth, starts)
         }
-        TokenKind::Item(item) => check_item(text, look, item, from, to, starts, depth + 1),
+        TokenKind::Item(item) => check_item(text, look, span, modifiers, item, starts, depth + 1),
         TokenKind::Tag(_) => Ok(to),
         TokenKind::Escape => Ok(to),
     }

@@ -4,6 +4,7 @@ use Rattle.std.proofs.lemmas.Result.{err_from_is_err_and}
 use Rattle.teco_scan.specs.declared.blocks.Kind.TheVariants.{Iter, Then, Else}
 use Rattle.teco_scan.specs.Scan.{scan, Instruction, ended, fault, found, mark, step}
 use Rattle.teco_scan.specs.declared.command.BlockMark.TheVariants.{Iterate}
+use Rattle.teco_scan.specs.declared.command.Modifiers.{Modifiers}
 use Rattle.teco_scan.specs.declared.token.Item.{Item as SpannedItem}
 use Rattle.teco_scan.specs.declared.token.TokenKind.{TokenKind}
 use Rattle.teco_scan.specs.Seen.{instruction_in, item_in, bytes_in, meaning_in}
@@ -15,11 +16,11 @@ use Rattle.teco_check.specs.Checked.{item_holds, lands_below, held, may_hold, re
 use Rattle.teco_check.proofs.Open.{opens, text_clean}
 use Rattle.teco_check.proofs.Places.{scan_same}
 use Rattle.teco_scan.proofs.WalkUnrolls.{place_is}
-use Rattle.teco_check.proofs.Inner.{token_long, a_text, fine_text, wrong_text, text_may, none_may}
+use Rattle.teco_check.proofs.Inner.{token_long, a_text, fine_text, wrong_text, text_may, none_may, behind_is, behind_may, whole_is, whole_may, wrong_behind}
 use Rattle.teco_check.proofs.Unrolls.{scanned_at, begins_more, block_opens, one_more}
 use Rattle.teco_scan.specs.Walk.{OpenList}
 use Rattle.teco_scan.specs.Walk as walked
-use Rattle.teco_check.specs.Walk.{by_check, lands_in, rule, check_walk}
+use Rattle.teco_check.specs.Walk.{by_check, lands_in, marks_of, rule, check_walk, told_item, wrong_with}
 use Rattle.teco_scan.specs.Scan.{after_fillers}
 use Rattle.teco_check.proofs.Here.{fault_here, stray_here}
 use Rattle.teco_check.proofs.Walked.{found_at, iter_faulty, iter_clean, cond_faulty, cond_clean, other_faulty, other_clean, iter_breaks, cond_breaks, other_breaks, iterate_deep, decide_deep, tag_clean, escape_clean, iterate_at, decide_at, wrong_unclean, deeper, closes_deeper, is_iterate, closing_is, item_rest}
@@ -112,11 +113,12 @@ check_list-returns-in_err-next-in-None-clause-clean t c lists are =
     let deep = opens c.block_laws.ensures text c.args.around.now c.args.depth c.args.at c.args.kind lists lt are in
     sym (c.loop-code.invariant.clean all deep)
     ∙ ap (λ (l : Listed). is_clean (held c.args.look.code.now) (may_hold c.args.look.texts c.args.look.code.now) all l.0) (found_at c.block_laws.ensures c.args.kind c.args.depth (drop c.loop-code.next text) (found (meaning_in text k) (drop k.span.to text)) c.in-Token.ensures.read)
-    ∙ c.in_err-next-in-None.ensures.clean k.modifiers all c.args.kind deep
+    ∙ c.in_err-next-in-None.ensures.clean all c.args.kind deep
     ∙ sym (ap (λ r. is_ok r) p.1)
 
 pub check_node-returns-then-depth-eq-BLOCK_LIMIT-clause-clean : goal.check_node-returns-then-depth-eq-BLOCK_LIMIT-clause-clean
-check_node-returns-then-depth-eq-BLOCK_LIMIT-clause-clean t c m lists k are =
+check_node-returns-then-depth-eq-BLOCK_LIMIT-clause-clean t c lists k are =
+    let m = c.args.token.modifiers in
     let text = c.args.text.now in
     let d = c.args.depth in
     let bs = drop c.args.token.span.to text in
@@ -124,7 +126,8 @@ check_node-returns-then-depth-eq-BLOCK_LIMIT-clause-clean t c m lists k are =
     ap (λ (i : Instruction). is_clean (held c.args.look.code.now) (may_hold c.args.look.texts c.args.look.code.now) lists (at_instruction list_at i m bs k d).0) it ∙ iterate_deep (held c.args.look.code.now) (may_hold c.args.look.texts c.args.look.code.now) lists k d m bs c.if-depth-eq-BLOCK_LIMIT.true
 
 pub check_node-returns-in_err-stop-in-Mark-clause-clean : goal.check_node-returns-in_err-stop-in-Mark-clause-clean
-check_node-returns-in_err-stop-in-Mark-clause-clean t c m lists k are =
+check_node-returns-in_err-stop-in-Mark-clause-clean t c lists k are =
+    let m = c.args.token.modifiers in
     let text = c.args.text.now in
     let d = c.args.depth in
     let bs = drop c.args.token.span.to text in
@@ -136,14 +139,16 @@ check_node-returns-in_err-stop-in-Mark-clause-clean t c m lists k are =
     ∙ sym (ap (λ (r : Result ℕ Fault). rest_clean (held c.args.look.code.now) (may_hold c.args.look.texts c.args.look.code.now) lists text k d r) p.1)
 
 pub check_node-returns-then-depth-eq-BLOCK_LIMIT-2-clause-clean : goal.check_node-returns-then-depth-eq-BLOCK_LIMIT-2-clause-clean
-check_node-returns-then-depth-eq-BLOCK_LIMIT-2-clause-clean t c m lists k are =
+check_node-returns-then-depth-eq-BLOCK_LIMIT-2-clause-clean t c lists k are =
+    let m = c.args.token.modifiers in
     let text = c.args.text.now in
     let d = c.args.depth in
     let bs = drop c.args.token.span.to text in
     ap (λ (x : TokenKind). is_clean (held c.args.look.code.now) (may_hold c.args.look.texts c.args.look.code.now) lists (at_instruction list_at (instruction_in text x) m bs k d).0) c.in-Test.is ∙ decide_deep (held c.args.look.code.now) (may_hold c.args.look.texts c.args.look.code.now) lists k d m bs c.in-Test.field-0 c.if-depth-eq-BLOCK_LIMIT-2.true
 
 pub check_node-returns-in_ok-stop-in-Mark-clause-clean : goal.check_node-returns-in_ok-stop-in-Mark-clause-clean
-check_node-returns-in_ok-stop-in-Mark-clause-clean t c m lists k are =
+check_node-returns-in_ok-stop-in-Mark-clause-clean t c lists k are =
+    let m = c.args.token.modifiers in
     let text = c.args.text.now in
     let d = c.args.depth in
     let bs = drop c.args.token.span.to text in
@@ -164,22 +169,36 @@ check_node-returns-else-depth-eq-BLOCK_LIMIT-2-clause-closes t c m k =
     (c.check_conditional.ensures.closes c.in-Test.field-0 k)
 
 pub check_node-returns-in-Item-clause-clean : goal.check_node-returns-in-Item-clause-clean
-check_node-returns-in-Item-clause-clean t c m lists k are =
+check_node-returns-in-Item-clause-clean t c lists k are =
+    let m = c.args.token.modifiers in
     let text = c.args.text.now in
     let d = c.args.depth in
     let bs = drop c.args.token.span.to text in
     ap (λ (x : TokenKind). is_clean (held c.args.look.code.now) (may_hold c.args.look.texts c.args.look.code.now) lists (at_instruction list_at (instruction_in text x) m bs k d).0) c.in-Item.is
-    ∙ item_rest (held c.args.look.code.now) (may_hold c.args.look.texts c.args.look.code.now) lists k d m text c.args.token.span.to (item_in text c.in-Item.item) c.check_item.result c.check_item.ensures.place (ap (λ (x : SpannedItem). is_fine (held c.args.look.code.now) (may_hold c.args.look.texts c.args.look.code.now) lists (item_in text x)) (sym c.in-Item.item-is) ∙ c.check_item.ensures.fine lists are)
+    ∙ item_rest (held c.args.look.code.now) (may_hold c.args.look.texts c.args.look.code.now) lists k d m text c.args.token.span.to (item_in text c.in-Item.item) c.check_item.result c.check_item.ensures.place (ap (λ (x : SpannedItem). is_fine (held c.args.look.code.now) (may_hold c.args.look.texts c.args.look.code.now) lists m (item_in text x)) (sym c.in-Item.item-is) ∙ c.check_item.ensures.fine lists are)
+
+pub check_node-returns-in-Item-clause-first : goal.check_node-returns-in-Item-clause-first
+check_node-returns-in-Item-clause-first t c o os long there =
+    let text = c.args.text.now in
+    let code = rule c.args.look.texts c.args.look.code.now in
+    let from = c.args.token.span.from in
+    let to = c.args.token.span.to in
+    ap (λ (x : TokenKind). walked.at_instruction (by_check code text) (check_walk code text) text (instruction_in text x) from o os (drop to text)) c.in-Item.is
+    ∙ ap (λ (m : Modifiers). walked.after_item (check_walk code text) (told_item from (wrong_with code text (o ∷ os) m (item_in text c.in-Item.item))) o os (drop to text)) (ap marks_of c.requires.token)
+    ∙ ap (λ (x : SpannedItem). walked.after_item (check_walk code text) (told_item from (wrong_with code text (o ∷ os) c.args.token.modifiers (item_in text x))) o os (drop to text)) (sym c.in-Item.item-is)
+    ∙ c.check_item.ensures.first o os (one_more o os c.args.depth long) there
 
 pub check_node-returns-in-Tag-clause-clean : goal.check_node-returns-in-Tag-clause-clean
-check_node-returns-in-Tag-clause-clean t c m lists k are =
+check_node-returns-in-Tag-clause-clean t c lists k are =
+    let m = c.args.token.modifiers in
     let text = c.args.text.now in
     let d = c.args.depth in
     let bs = drop c.args.token.span.to text in
     ap (λ (x : TokenKind). is_clean (held c.args.look.code.now) (may_hold c.args.look.texts c.args.look.code.now) lists (at_instruction list_at (instruction_in text x) m bs k d).0) c.in-Tag.is ∙ tag_clean (held c.args.look.code.now) (may_hold c.args.look.texts c.args.look.code.now) lists k d m bs (bytes_in text c.in-Tag.field-0)
 
 pub check_node-returns-in-Escape-clause-clean : goal.check_node-returns-in-Escape-clause-clean
-check_node-returns-in-Escape-clause-clean t c m lists k are =
+check_node-returns-in-Escape-clause-clean t c lists k are =
+    let m = c.args.token.modifiers in
     let text = c.args.text.now in
     let d = c.args.depth in
     let bs = drop c.args.token.span.to text in
@@ -384,6 +403,26 @@ pub check_gathered-returns-in-Err-clause-clean : goal.check_gathered-returns-in-
 unfolding lands_below
 check_gathered-returns-in-Err-clause-clean t c = text_clean c.args.look.texts c.args.look.code.now c.args.text.now false (c.in-Err.ensures.clean [] (λ name. refl))
 
+pub wrong_of-returns-then-modifiers-eq1-clause-fine : goal.wrong_of-returns-then-modifiers-eq1-clause-fine
+wrong_of-returns-then-modifiers-eq1-clause-fine t c lists are =
+    let text = c.args.text.now in
+    let code = c.args.look.code.now in
+    let n = c.args.look.texts in
+    let is : c.args.item ≡ a_text c.in-SetText.field-0 c.in-SetText.span = search rules in
+    let on : c.holds_code-holds.result ≡ true = search rules in
+    let held_on : held code c.in-SetText.field-0 ≡ true = sym (ap (λ (x : SpannedItem). item_holds (held code) x) is) ∙ sym c.holds_code-holds.ensures ∙ on in
+    fine_text n code text lists c.args.modifiers c.args.item c.in-SetText.field-0 c.in-SetText.span false is held_on (behind_may c.args.modifiers (may_hold n code (bytes_in text c.in-SetText.span)) (behind_is c.args.modifiers c.if-modifiers-eq1.true))
+
+pub wrong_of-returns-then-modifiers-eq1-clause-first : goal.wrong_of-returns-then-modifiers-eq1-clause-first
+wrong_of-returns-then-modifiers-eq1-clause-first t c lists long there =
+    let text = c.args.text.now in
+    let code = c.args.look.code.now in
+    let n = c.args.look.texts in
+    let is : c.args.item ≡ a_text c.in-SetText.field-0 c.in-SetText.span = search rules in
+    let on : c.holds_code-holds.result ≡ true = search rules in
+    let held_on : held code c.in-SetText.field-0 ≡ true = sym (ap (λ (x : SpannedItem). item_holds (held code) x) is) ∙ sym c.holds_code-holds.ensures ∙ on in
+    sym (wrong_behind n code text lists c.args.modifiers c.args.item c.in-SetText.field-0 c.in-SetText.span is held_on (behind_is c.args.modifiers c.if-modifiers-eq1.true))
+
 pub wrong_of-returns-then-look-eq0-clause-fine : goal.wrong_of-returns-then-look-eq0-clause-fine
 wrong_of-returns-then-look-eq0-clause-fine t c lists are =
     let text = c.args.text.now in
@@ -392,7 +431,7 @@ wrong_of-returns-then-look-eq0-clause-fine t c lists are =
     let is : c.args.item ≡ a_text c.in-SetText.field-0 c.in-SetText.span = search rules in
     let on : c.holds_code-holds.result ≡ true = search rules in
     let held_on : held code c.in-SetText.field-0 ≡ true = sym (ap (λ (x : SpannedItem). item_holds (held code) x) is) ∙ sym c.holds_code-holds.ensures ∙ on in
-    fine_text n code text lists c.args.item c.in-SetText.field-0 c.in-SetText.span false is held_on (none_may n code (bytes_in text c.in-SetText.span) c.if-look-eq0.true)
+    fine_text n code text lists c.args.modifiers c.args.item c.in-SetText.field-0 c.in-SetText.span false is held_on (whole_may c.args.modifiers (may_hold n code (bytes_in text c.in-SetText.span)) false (whole_is c.args.modifiers c.if-modifiers-eq1.false) (none_may n code (bytes_in text c.in-SetText.span) c.if-look-eq0.true))
 
 pub wrong_of-returns-then-look-eq0-clause-first : goal.wrong_of-returns-then-look-eq0-clause-first
 wrong_of-returns-then-look-eq0-clause-first t c lists long there =
@@ -402,7 +441,7 @@ wrong_of-returns-then-look-eq0-clause-first t c lists long there =
     let is : c.args.item ≡ a_text c.in-SetText.field-0 c.in-SetText.span = search rules in
     let on : c.holds_code-holds.result ≡ true = search rules in
     let held_on : held code c.in-SetText.field-0 ≡ true = sym (ap (λ (x : SpannedItem). item_holds (held code) x) is) ∙ sym c.holds_code-holds.ensures ∙ on in
-    sym (wrong_text n code text lists c.args.item c.in-SetText.field-0 c.in-SetText.span false is held_on (none_may n code (bytes_in text c.in-SetText.span) c.if-look-eq0.true))
+    sym (wrong_text n code text lists c.args.modifiers c.args.item c.in-SetText.field-0 c.in-SetText.span is held_on false (whole_is c.args.modifiers c.if-modifiers-eq1.false) (none_may n code (bytes_in text c.in-SetText.span) c.if-look-eq0.true))
 
 pub wrong_of-returns-then-is_none-clause-fine : goal.wrong_of-returns-then-is_none-clause-fine
 wrong_of-returns-then-is_none-clause-fine t c lists are =
@@ -415,7 +454,7 @@ wrong_of-returns-then-is_none-clause-fine t c lists are =
     let told : is_none c.check_text.result ≡ true = search rules in
     let may : may_hold n code (bytes_in text c.in-SetText.span) ≡ true
     = text_may n code (bytes_in text c.in-SetText.span) true c.if-look-eq0.false (c.check_text.ensures.clean ∙ told) in
-    fine_text n code text lists c.args.item c.in-SetText.field-0 c.in-SetText.span true is held_on may
+    fine_text n code text lists c.args.modifiers c.args.item c.in-SetText.field-0 c.in-SetText.span true is held_on (whole_may c.args.modifiers (may_hold n code (bytes_in text c.in-SetText.span)) true (whole_is c.args.modifiers c.if-modifiers-eq1.false) may)
 
 pub wrong_of-returns-then-is_none-clause-first : goal.wrong_of-returns-then-is_none-clause-first
 wrong_of-returns-then-is_none-clause-first t c lists long there =
@@ -428,7 +467,7 @@ wrong_of-returns-then-is_none-clause-first t c lists long there =
     let told : is_none c.check_text.result ≡ true = search rules in
     let may : may_hold n code (bytes_in text c.in-SetText.span) ≡ true
     = text_may n code (bytes_in text c.in-SetText.span) true c.if-look-eq0.false (c.check_text.ensures.clean ∙ told) in
-    sym (wrong_text n code text lists c.args.item c.in-SetText.field-0 c.in-SetText.span true is held_on may)
+    sym (wrong_text n code text lists c.args.modifiers c.args.item c.in-SetText.field-0 c.in-SetText.span is held_on true (whole_is c.args.modifiers c.if-modifiers-eq1.false) may)
 
 pub wrong_of-returns-else-is_none-clause-fine : goal.wrong_of-returns-else-is_none-clause-fine
 wrong_of-returns-else-is_none-clause-fine t c lists are =
@@ -441,7 +480,7 @@ wrong_of-returns-else-is_none-clause-fine t c lists are =
     let told : is_none c.check_text.result ≡ false = search rules in
     let may : may_hold n code (bytes_in text c.in-SetText.span) ≡ false
     = text_may n code (bytes_in text c.in-SetText.span) false c.if-look-eq0.false (c.check_text.ensures.clean ∙ told) in
-    fine_text n code text lists c.args.item c.in-SetText.field-0 c.in-SetText.span false is held_on may
+    fine_text n code text lists c.args.modifiers c.args.item c.in-SetText.field-0 c.in-SetText.span false is held_on (whole_may c.args.modifiers (may_hold n code (bytes_in text c.in-SetText.span)) false (whole_is c.args.modifiers c.if-modifiers-eq1.false) may)
 
 pub wrong_of-returns-else-is_none-clause-first : goal.wrong_of-returns-else-is_none-clause-first
 wrong_of-returns-else-is_none-clause-first t c lists long there =
@@ -454,7 +493,7 @@ wrong_of-returns-else-is_none-clause-first t c lists long there =
     let told : is_none c.check_text.result ≡ false = search rules in
     let may : may_hold n code (bytes_in text c.in-SetText.span) ≡ false
     = text_may n code (bytes_in text c.in-SetText.span) false c.if-look-eq0.false (c.check_text.ensures.clean ∙ told) in
-    sym (wrong_text n code text lists c.args.item c.in-SetText.field-0 c.in-SetText.span false is held_on may)
+    sym (wrong_text n code text lists c.args.modifiers c.args.item c.in-SetText.field-0 c.in-SetText.span is held_on false (whole_is c.args.modifiers c.if-modifiers-eq1.false) may)
 
 pub check_list-returns-in-Some-clause-within : goal.check_list-returns-in-Some-clause-within
 check_list-returns-in-Some-clause-within t c = grind (arith, common_steps)
