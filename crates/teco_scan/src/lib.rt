@@ -29,7 +29,7 @@ pub use leads::{
 };
 pub use names::lone_form;
 pub use profile::Profile;
-pub use scan::{filler_end, spelling, token_at, token_in};
+pub use scan::{filler_end, profile_laws, spelling, token_at, token_in};
 pub use stream::{HistoryMove, asks_history, ends_in_escape, move_asked, pair_end};
 pub use table::{ROWS, WIDE_ROWS};
 pub use token::{Found, Item, Span, Token, TokenKind};

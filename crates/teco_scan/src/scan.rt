@@ -126,8 +126,6 @@ pub fn token_in(profile: Profile, text: &[u8], at: usize) -> Found
 /// register or test, and ILL exactly where a refused name is, or nothing of all this is so; no other fault is read. Fillers
 /// are passed. The clauses of [`token_at`] leave one answer. The table says what commands there are, and here is how each of its
 /// rows is written, and which of them admit modifiers.
-///
-/// [`WIDE_ROWS`] passes too. What Named finds, Wide finds; what Wide finds, Named finds, or it is ILL or IQC there.
 pub fn spelling()
     ensures table { is_table ROWS ≡ true }
     ensures spelled { (rows : List Row) → IsSpelled rows }
@@ -145,6 +143,13 @@ pub fn spelling()
     ensures text_commands { TextCommandsAreSpelled }
     ensures marks { MarksAreSpelled }
     ensures modifiers { ModifiersAreAdmitted }
+{}
+
+/// The laws of the profiles, as its clauses.
+///
+/// The laws of [`spelling`] hold of [`WIDE_ROWS`] too, since it passes the test. What Named finds, Wide finds; what Wide finds,
+/// Named finds, or it is ILL or IQC there. Here is what Wide adds.
+pub fn profile_laws()
     ensures wide_table { is_table WIDE_ROWS ≡ true }
     ensures wide_keeps { WideKeeps }
     ensures wide_adds { WideAdds }

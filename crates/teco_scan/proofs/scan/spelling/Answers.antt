@@ -1,5 +1,5 @@
 use Rattle.std.proofs.Common.{◌≡◌, true, refl}
-use Rattle.teco_scan.specs.declared.table.TheConstants.{ROWS, WIDE_ROWS}
+use Rattle.teco_scan.specs.declared.table.TheConstants.{ROWS}
 use Rattle.teco_scan.specs.Table.{is_table}
 use Rattle.teco_scan.proofs.IsSpelled.{spelled}
 use Rattle.teco_scan.proofs.IsLongest.{longest}
@@ -7,8 +7,6 @@ use Rattle.teco_scan.proofs.Faults.{four, register_exactly, test_exactly}
 use Rattle.teco_scan.proofs.CutAndIll.{cut_exactly, ill_exactly, passes_fillers}
 use Rattle.teco_scan.proofs.Determined.{determined}
 use Rattle.teco_scan.proofs.Written as written
-use Rattle.teco_scan.proofs.Wider.{wide_keeps}
-use Rattle.teco_scan.proofs.WideAdds.{wide_adds}
 use Rattle.teco_scan.proofs.scan.spelling.Goals as goal
 
 -- all that the laws need of the commands
@@ -62,18 +60,3 @@ returns-clause-marks c = written.marks
 
 pub returns-clause-modifiers : goal.returns-clause-modifiers
 returns-clause-modifiers c = written.modifiers
-
-wide_rows_are_table : is_table WIDE_ROWS ≡ true
-wide_rows_are_table = refl
-
-pub returns-clause-wide_table : goal.returns-clause-wide_table
-returns-clause-wide_table c = wide_rows_are_table
-
-pub returns-clause-wide_keeps : goal.returns-clause-wide_keeps
-returns-clause-wide_keeps c = wide_keeps
-
-pub returns-clause-wide_adds : goal.returns-clause-wide_adds
-returns-clause-wide_adds c = wide_adds
-
-pub returns-clause-wide_spellings : goal.returns-clause-wide_spellings
-returns-clause-wide_spellings c = written.wide_spellings
