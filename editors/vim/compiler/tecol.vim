@@ -1,0 +1,15 @@
+" :make checks a file by `tecol -c`. A hint is of type I, what is not checked of type W, and a fault of type E.
+if exists('current_compiler')
+  finish
+endif
+let current_compiler = 'tecol'
+let s:cpo = &cpo
+set cpo&vim
+if get(b:, 'teco_bytes', 0)
+  CompilerSet makeprg=tecol\ -c\ -r\ %:S
+else
+  CompilerSet makeprg=tecol\ -c\ %:S
+endif
+CompilerSet errorformat=%I%f:%l:%c:\ hint:\ %m,%W%f:%l:%c:\ not\ checked:\ %m,%E%f:%l:%c:\ %m
+let &cpo = s:cpo
+unlet s:cpo
