@@ -20,19 +20,24 @@ FISHDIR = $(DATADIR)/fish/vendor_completions.d
 
 RT = rt
 CC = cc
+LD = ld
 AR = ar
+OBJCOPY = objcopy
 CFLAGS = -O2
 INSTALL = install
 
 NAMES = teco teco-debug tecol teco-term teco-screen
-# What is installed below DOCDIR: these, and the pages and programs in folders of their own.
-TOP_PAGES = README.md CHANGELOG.md SECURITY.md CONTRIBUTING.md
-PAGES = docs/*.md docs/*.svg
-MEASURED = bench/*.md bench/*.svg
+# What is installed below DOCDIR, by its name here; and what docs/LIBRARY.md names, which goes below DOCDIR/examples.
+PAGES = README.md CHANGELOG.md SECURITY.md CONTRIBUTING.md docs/*.md docs/*.svg bench/*.md bench/*.svg crates/*/README.md tools/README.md
 EXAMPLES = examples/*.md examples/*.tec examples/*.in examples/*.out examples/*.typed
+OVER_LIBRARY = bindings/c/edit.c bindings/c/stop.c bindings/rattle/edit.rt.txt bindings/python/teco*.py bindings/python/example.py \
+    bindings/rust/Cargo.* bindings/rust/build.rs bindings/rust/src/*.rs bindings/rust/tests/*.rs
 PROGRAMS = out/teco out/teco-debug out/tecol out/teco-term out/teco-screen
-LIBRARY = out/libteco_c.a out/teco.pc
 VERSION != sed -n 's/^pub const VERSION: &str = "\(.*\)";$$/\1/p' crates/teco_cli/src/*.rt
+# A version with another of the first two numbers is another library to those that are linked with it.
+ABI != echo '$(VERSION)' | cut -d . -f 1,2
+SHARED_LIBRARY = libteco.so.$(ABI)
+LIBRARY = out/libteco_c.a out/$(SHARED_LIBRARY) out/libteco.so out/teco.pc
 SOURCES != find crates.txt crates/*/src crates/*/specs crates/*/proofs -type f ! -path 'crates/teco_tests/*'
 # What teco-term and teco-screen share, and what each has beside it.
 SHARED != ls frontends/common/*.c
@@ -102,10 +107,22 @@ out/tecol: crates/tecol/out/tecol
 	$(INSTALL) -m 755 crates/tecol/out/tecol $@
 
 # The library asks for memory through a library of the kit, which comes into the same archive, so that nothing else has to be linked.
+# What is not of teco.h is named inside of it alone, so that another library over the kit can stand beside it.
 out/libteco_c.a: crates/teco_c/out/libteco_c.a
 	@mkdir -p out
 	kit=$$(dirname "$$($(RT) doc)") && \
-	    printf '%s\n' 'CREATE $@' 'ADDLIB crates/teco_c/out/libteco_c.a' "ADDLIB $$kit/c/liblibc_c.a" SAVE END | $(AR) -M
+	    $(LD) -r -o out/teco_c.o --whole-archive crates/teco_c/out/libteco_c.a --no-whole-archive "$$kit/c/liblibc_c.a"
+	$(OBJCOPY) -w --keep-global-symbol='teco_*' out/teco_c.o
+	rm -f $@
+	$(AR) -rcD $@ out/teco_c.o
+	rm out/teco_c.o
+
+out/$(SHARED_LIBRARY): out/libteco_c.a bindings/c/teco.map
+	$(CC) -shared -o $@ -Wl,-soname,$(SHARED_LIBRARY) -Wl,--version-script=bindings/c/teco.map -Wl,--default-symver \
+	    -Wl,-z,now -Wl,-z,defs -Wl,--whole-archive out/libteco_c.a -Wl,--no-whole-archive $(LDFLAGS)
+
+out/libteco.so: out/$(SHARED_LIBRARY)
+	ln -sf $(SHARED_LIBRARY) $@
 
 out/teco-term: $(TERM_SOURCES) $(SHARED) frontends/term/term-editor.h $(HEADERS) out/libteco_c.a
 	$(CC) -std=c11 -pthread $(CFLAGS) -Ibindings/c -Ifrontends/common $(TERM_SOURCES) $(SHARED) out/libteco_c.a -o $@ $(LDFLAGS)
@@ -140,7 +157,7 @@ out/completions: $(PROGRAMS) tools/completions
 ##                    with DESTDIR=FOLDER into a folder that stands for the root
 install: all
 	$(INSTALL) -d '$(DESTDIR)$(BINDIR)' '$(DESTDIR)$(LIBDIR)' '$(DESTDIR)$(INCLUDEDIR)' '$(DESTDIR)$(MANDIR)' '$(DESTDIR)$(LANGUAGEDIR)' '$(DESTDIR)$(PCDIR)' \
-	    '$(DESTDIR)$(DOCDIR)/docs' '$(DESTDIR)$(DOCDIR)/bench' '$(DESTDIR)$(DOCDIR)/examples' '$(DESTDIR)$(BASHDIR)' '$(DESTDIR)$(ZSHDIR)' '$(DESTDIR)$(FISHDIR)'
+	    '$(DESTDIR)$(DOCDIR)' '$(DESTDIR)$(BASHDIR)' '$(DESTDIR)$(ZSHDIR)' '$(DESTDIR)$(FISHDIR)'
 	for name in $(NAMES); do \
 	    $(INSTALL) -m 755 out/$$name '$(DESTDIR)$(BINDIR)'/$$name && \
 	    $(INSTALL) -m 644 docs/$$name.1 '$(DESTDIR)$(MANDIR)'/$$name.1 && \
@@ -152,12 +169,15 @@ install: all
 	$(INSTALL) -m 644 docs/teco-tutor.1 '$(DESTDIR)$(MANDIR)/teco-tutor.1'
 	$(INSTALL) -m 644 out/teco.7 '$(DESTDIR)$(LANGUAGEDIR)/teco.7'
 	$(INSTALL) -m 644 out/libteco_c.a '$(DESTDIR)$(LIBDIR)/libteco_c.a'
+	$(INSTALL) -m 644 out/$(SHARED_LIBRARY) '$(DESTDIR)$(LIBDIR)/$(SHARED_LIBRARY)'
+	ln -sf $(SHARED_LIBRARY) '$(DESTDIR)$(LIBDIR)/libteco.so'
+	ln -sf libteco_c.a '$(DESTDIR)$(LIBDIR)/libteco.a'
 	$(INSTALL) -m 644 bindings/c/teco.h '$(DESTDIR)$(INCLUDEDIR)/teco.h'
 	$(INSTALL) -m 644 out/teco.pc '$(DESTDIR)$(PCDIR)/teco.pc'
-	$(INSTALL) -m 644 $(TOP_PAGES) '$(DESTDIR)$(DOCDIR)'
-	$(INSTALL) -m 644 $(PAGES) '$(DESTDIR)$(DOCDIR)/docs'
-	$(INSTALL) -m 644 $(MEASURED) '$(DESTDIR)$(DOCDIR)/bench'
-	$(INSTALL) -m 644 $(EXAMPLES) '$(DESTDIR)$(DOCDIR)/examples'
+	put() { $(INSTALL) -d "$$2/$$(dirname "$$1")" && $(INSTALL) -m 644 "$$1" "$$2/$$1"; } && \
+	    for file in $(PAGES) $(EXAMPLES); do put $$file '$(DESTDIR)$(DOCDIR)' || exit 1; done && \
+	    for file in $(OVER_LIBRARY); do put $$file '$(DESTDIR)$(DOCDIR)/examples' || exit 1; done
+	[ -n '$(DESTDIR)' ] || ldconfig 2> /dev/null || true
 	@echo 'Installed below $(DESTDIR)$(PREFIX). Begin with teco-tutor, or with man teco.'
 
 # A folder may have files of others: so each file goes by its name, and a folder only if it is empty then.
@@ -168,9 +188,12 @@ uninstall:
 	    rm -f '$(DESTDIR)$(BINDIR)'/$$name '$(DESTDIR)$(MANDIR)'/$$name.1 '$(DESTDIR)$(BASHDIR)'/$$name \
 	        '$(DESTDIR)$(ZSHDIR)'/_$$name '$(DESTDIR)$(FISHDIR)'/$$name.fish || exit 1; \
 	done
-	rm -f '$(DESTDIR)$(BINDIR)/teco-tutor' '$(DESTDIR)$(MANDIR)/teco-tutor.1' '$(DESTDIR)$(LANGUAGEDIR)/teco.7' '$(DESTDIR)$(LIBDIR)/libteco_c.a' '$(DESTDIR)$(INCLUDEDIR)/teco.h' '$(DESTDIR)$(PCDIR)/teco.pc'
-	for file in $(TOP_PAGES) $(PAGES) $(MEASURED) $(EXAMPLES); do rm -f '$(DESTDIR)$(DOCDIR)'/$$file || exit 1; done
-	for folder in docs bench examples ''; do rmdir '$(DESTDIR)$(DOCDIR)'/$$folder 2> /dev/null || true; done
+	rm -f '$(DESTDIR)$(BINDIR)/teco-tutor' '$(DESTDIR)$(MANDIR)/teco-tutor.1' '$(DESTDIR)$(LANGUAGEDIR)/teco.7' '$(DESTDIR)$(INCLUDEDIR)/teco.h' \
+	    '$(DESTDIR)$(PCDIR)/teco.pc' '$(DESTDIR)$(LIBDIR)/libteco_c.a' '$(DESTDIR)$(LIBDIR)/libteco.a' '$(DESTDIR)$(LIBDIR)/libteco.so' \
+	    '$(DESTDIR)$(LIBDIR)/$(SHARED_LIBRARY)'
+	for file in $(PAGES) $(EXAMPLES); do rm -f '$(DESTDIR)$(DOCDIR)'/$$file || exit 1; done
+	for file in $(OVER_LIBRARY); do rm -f '$(DESTDIR)$(DOCDIR)/examples'/$$file || exit 1; done
+	find '$(DESTDIR)$(DOCDIR)' -depth -type d -exec rmdir {} \; 2> /dev/null || true
 
 ## make clean         removes out/; what the crates keep of their proofs stays
 clean:
