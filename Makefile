@@ -28,7 +28,7 @@ INSTALL = install
 
 NAMES = teco teco-debug tecol teco-term teco-screen
 # What is installed below DOCDIR, by its name here; and what docs/LIBRARY.md names, which goes below DOCDIR/examples.
-PAGES = README.md CHANGELOG.md SECURITY.md CONTRIBUTING.md docs/*.md docs/*.svg bench/*.md bench/*.svg crates/*/README.md tools/README.md
+PAGES = README.md NOTICE CHANGELOG.md SECURITY.md CONTRIBUTING.md docs/*.md docs/*.svg bench/*.md bench/*.svg crates/*/README.md tools/README.md
 EXAMPLES = examples/*.md examples/*.tec examples/*.in examples/*.out examples/*.typed
 OVER_LIBRARY = bindings/c/edit.c bindings/c/stop.c bindings/rattle/edit.rt.txt bindings/python/teco*.py bindings/python/example.py \
     bindings/rust/Cargo.* bindings/rust/build.rs bindings/rust/src/*.rs bindings/rust/tests/*.rs
