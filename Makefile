@@ -195,9 +195,17 @@ uninstall:
 	for file in $(OVER_LIBRARY); do rm -f '$(DESTDIR)$(DOCDIR)/examples'/$$file || exit 1; done
 	find '$(DESTDIR)$(DOCDIR)' -depth -type d -exec rmdir {} \; 2> /dev/null || true
 
+## make dist          makes an archive of what make install puts below its prefix, and a file of its sha256 sum, in out/
+dist: all
+	tools/dist
+
+## make deb           makes the Debian packages teco, libteco0.N and libteco-dev, in out/
+deb: all
+	tools/deb
+
 ## make clean         removes out/; what the crates keep of their proofs stays
 clean:
 	rm -rf out
 
-.PHONY: all built help try quick test gate pages bench install uninstall clean always
+.PHONY: all built help try quick test gate pages bench install uninstall dist deb clean always
 always:
