@@ -29,6 +29,7 @@ INSTALL = install
 NAMES = teco teco-debug tecol teco-term teco-screen
 # What is installed below DOCDIR, by its name here; and what docs/LIBRARY.md names, which goes below DOCDIR/examples.
 PAGES = README.md NOTICE CHANGELOG.md SECURITY.md CONTRIBUTING.md docs/*.md docs/*.svg bench/*.md bench/*.svg crates/*/README.md tools/README.md
+EDITORS = editors/README.md editors/vim/*/*.vim editors/emacs/*.el editors/textmate/*.json
 EXAMPLES = examples/*.md examples/*.tec examples/*.in examples/*.out examples/*.typed
 OVER_LIBRARY = bindings/c/edit.c bindings/c/stop.c bindings/rattle/edit.rt.txt bindings/python/teco*.py bindings/python/example.py \
     bindings/rust/Cargo.* bindings/rust/build.rs bindings/rust/src/*.rs bindings/rust/tests/*.rs
@@ -175,7 +176,7 @@ install: all
 	$(INSTALL) -m 644 bindings/c/teco.h '$(DESTDIR)$(INCLUDEDIR)/teco.h'
 	$(INSTALL) -m 644 out/teco.pc '$(DESTDIR)$(PCDIR)/teco.pc'
 	put() { $(INSTALL) -d "$$2/$$(dirname "$$1")" && $(INSTALL) -m 644 "$$1" "$$2/$$1"; } && \
-	    for file in $(PAGES) $(EXAMPLES); do put $$file '$(DESTDIR)$(DOCDIR)' || exit 1; done && \
+	    for file in $(PAGES) $(EDITORS) $(EXAMPLES); do put $$file '$(DESTDIR)$(DOCDIR)' || exit 1; done && \
 	    for file in $(OVER_LIBRARY); do put $$file '$(DESTDIR)$(DOCDIR)/examples' || exit 1; done
 	[ -n '$(DESTDIR)' ] || ldconfig 2> /dev/null || true
 	@echo 'Installed below $(DESTDIR)$(PREFIX). Begin with teco-tutor, or with man teco.'
@@ -191,7 +192,7 @@ uninstall:
 	rm -f '$(DESTDIR)$(BINDIR)/teco-tutor' '$(DESTDIR)$(MANDIR)/teco-tutor.1' '$(DESTDIR)$(LANGUAGEDIR)/teco.7' '$(DESTDIR)$(INCLUDEDIR)/teco.h' \
 	    '$(DESTDIR)$(PCDIR)/teco.pc' '$(DESTDIR)$(LIBDIR)/libteco_c.a' '$(DESTDIR)$(LIBDIR)/libteco.a' '$(DESTDIR)$(LIBDIR)/libteco.so' \
 	    '$(DESTDIR)$(LIBDIR)/$(SHARED_LIBRARY)'
-	for file in $(PAGES) $(EXAMPLES); do rm -f '$(DESTDIR)$(DOCDIR)'/$$file || exit 1; done
+	for file in $(PAGES) $(EDITORS) $(EXAMPLES); do rm -f '$(DESTDIR)$(DOCDIR)'/$$file || exit 1; done
 	for file in $(OVER_LIBRARY); do rm -f '$(DESTDIR)$(DOCDIR)/examples'/$$file || exit 1; done
 	find '$(DESTDIR)$(DOCDIR)' -depth -type d -exec rmdir {} \; 2> /dev/null || true
 
