@@ -12,6 +12,7 @@ INCLUDEDIR = $(PREFIX)/include
 DATADIR = $(PREFIX)/share
 MANDIR = $(DATADIR)/man/man1
 LANGUAGEDIR = $(DATADIR)/man/man7
+CALLSDIR = $(DATADIR)/man/man3
 DOCDIR = $(DATADIR)/doc/teco
 PCDIR = $(LIBDIR)/pkgconfig
 BASHDIR = $(DATADIR)/bash-completion/completions
@@ -53,7 +54,7 @@ all:
 	tools/build
 	$(MAKE) built
 
-built: $(PROGRAMS) $(LIBRARY) out/completions out/teco.7
+built: $(PROGRAMS) $(LIBRARY) out/completions out/teco.7 out/teco.3
 
 ## make help          lists these lines
 help:
@@ -141,6 +142,11 @@ out/teco.7: docs/REFERENCE.md docs/teco.1 tools/language-page
 	@mkdir -p out
 	tools/language-page > $@
 
+# The page of the library for man, made of its header.
+out/teco.3: bindings/c/teco.h docs/teco.1 tools/library-page
+	@mkdir -p out
+	tools/library-page > $@
+
 # Where the library lies is said in teco.pc, so it is written anew each time.
 out/teco.pc: bindings/c/teco.pc.in always
 	@mkdir -p out
@@ -157,7 +163,7 @@ out/completions: $(PROGRAMS) tools/completions
 ## make install       puts programs, pages for man, docs, library and completions below PREFIX, /usr/local where it isn't given;
 ##                    with DESTDIR=FOLDER into a folder that stands for the root
 install: all
-	$(INSTALL) -d '$(DESTDIR)$(BINDIR)' '$(DESTDIR)$(LIBDIR)' '$(DESTDIR)$(INCLUDEDIR)' '$(DESTDIR)$(MANDIR)' '$(DESTDIR)$(LANGUAGEDIR)' '$(DESTDIR)$(PCDIR)' \
+	$(INSTALL) -d '$(DESTDIR)$(BINDIR)' '$(DESTDIR)$(LIBDIR)' '$(DESTDIR)$(INCLUDEDIR)' '$(DESTDIR)$(MANDIR)' '$(DESTDIR)$(LANGUAGEDIR)' '$(DESTDIR)$(CALLSDIR)' '$(DESTDIR)$(PCDIR)' \
 	    '$(DESTDIR)$(DOCDIR)' '$(DESTDIR)$(BASHDIR)' '$(DESTDIR)$(ZSHDIR)' '$(DESTDIR)$(FISHDIR)'
 	for name in $(NAMES); do \
 	    $(INSTALL) -m 755 out/$$name '$(DESTDIR)$(BINDIR)'/$$name && \
@@ -169,6 +175,7 @@ install: all
 	$(INSTALL) -m 755 frontends/screen/teco-tutor '$(DESTDIR)$(BINDIR)/teco-tutor'
 	$(INSTALL) -m 644 docs/teco-tutor.1 '$(DESTDIR)$(MANDIR)/teco-tutor.1'
 	$(INSTALL) -m 644 out/teco.7 '$(DESTDIR)$(LANGUAGEDIR)/teco.7'
+	$(INSTALL) -m 644 out/teco.3 '$(DESTDIR)$(CALLSDIR)/teco.3'
 	$(INSTALL) -m 644 out/libteco_c.a '$(DESTDIR)$(LIBDIR)/libteco_c.a'
 	$(INSTALL) -m 644 out/$(SHARED_LIBRARY) '$(DESTDIR)$(LIBDIR)/$(SHARED_LIBRARY)'
 	ln -sf $(SHARED_LIBRARY) '$(DESTDIR)$(LIBDIR)/libteco.so'
@@ -189,7 +196,7 @@ uninstall:
 	    rm -f '$(DESTDIR)$(BINDIR)'/$$name '$(DESTDIR)$(MANDIR)'/$$name.1 '$(DESTDIR)$(BASHDIR)'/$$name \
 	        '$(DESTDIR)$(ZSHDIR)'/_$$name '$(DESTDIR)$(FISHDIR)'/$$name.fish || exit 1; \
 	done
-	rm -f '$(DESTDIR)$(BINDIR)/teco-tutor' '$(DESTDIR)$(MANDIR)/teco-tutor.1' '$(DESTDIR)$(LANGUAGEDIR)/teco.7' '$(DESTDIR)$(INCLUDEDIR)/teco.h' \
+	rm -f '$(DESTDIR)$(BINDIR)/teco-tutor' '$(DESTDIR)$(MANDIR)/teco-tutor.1' '$(DESTDIR)$(LANGUAGEDIR)/teco.7' '$(DESTDIR)$(CALLSDIR)/teco.3' '$(DESTDIR)$(INCLUDEDIR)/teco.h' \
 	    '$(DESTDIR)$(PCDIR)/teco.pc' '$(DESTDIR)$(LIBDIR)/libteco_c.a' '$(DESTDIR)$(LIBDIR)/libteco.a' '$(DESTDIR)$(LIBDIR)/libteco.so' \
 	    '$(DESTDIR)$(LIBDIR)/$(SHARED_LIBRARY)'
 	for file in $(PAGES) $(EDITORS) $(EXAMPLES); do rm -f '$(DESTDIR)$(DOCDIR)'/$$file || exit 1; done
