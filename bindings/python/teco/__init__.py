@@ -1,6 +1,6 @@
-"""Command strings with total undo and redo, by ctypes over a shared object made of libteco_c.a.
+"""Command strings with total undo and redo, by ctypes over the shared library.
 
-TECO_SHARED names the shared object. A Session closes itself; used in a `with` it is closed at the end. What the library can't take is
+TECO_SHARED names the library. Without it the one beside this file is loaded, which an installed package has. A Session closes itself; used in a `with` it is closed at the end. What the library can't take is
 refused by an exception before it is called: TypeError for a text that is no bytes and a number that is none, ValueError for a negative
 one, OverflowError for one that is too large, RuntimeError on another thread than the one that opened the session. A Session can't be
 copied.
@@ -20,8 +20,8 @@ from collections import namedtuple
 from contextlib import contextmanager
 from ctypes import POINTER, byref, c_int32, c_size_t, c_uint8, c_uint64, c_void_p
 
-from teco_file import File, begun, held
-from teco_interrupts import breaking_off, is_main
+from ._file import File, begun, held
+from ._interrupts import breaking_off, is_main
 
 ILL, IQC, IQN, POP, UTC, LIM = 7, 9, 10, 20, 24, 27
 MEM, TTY, NTU, NTR, END = 28, 29, 30, 31, 32
@@ -122,7 +122,7 @@ def _calls():
 
 
 def _library():
-    library = ctypes.CDLL(os.environ["TECO_SHARED"])
+    library = ctypes.CDLL(os.environ.get("TECO_SHARED") or os.path.join(os.path.dirname(os.path.abspath(__file__)), "libteco.so"))
     for name, arguments in _calls().items():
         call = getattr(library, "teco_" + name)
         call.argtypes, call.restype = [POINTER(Handle), *arguments], c_uint8

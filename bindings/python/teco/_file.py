@@ -5,7 +5,7 @@ import os
 import signal
 from contextlib import contextmanager
 
-from teco_interrupts import is_main
+from ._interrupts import is_main
 
 
 class File:

@@ -9,6 +9,7 @@ import sys
 import tempfile
 import threading
 
+sys.path.insert(0, os.path.dirname(os.path.dirname(os.path.abspath(__file__))))
 from teco import (CHANGED_HEAD, CLOSED, DEEP, END, IQC, IQN, ILL, LIM, NO_TOKEN, NTR, NTU, OTHERWISE, OUTSIDE, POP, RAN, TORN_HEAD, TTY, UNDID,
                   UTC, Call, Damaged, Frames, Place, Refused, Session, Stopper, Token, Unreadable,
                   resume, source, token)
