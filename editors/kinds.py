@@ -1,12 +1,13 @@
 """The kind of each byte of a file of command strings, by the tokens of the library: what the colors of an editor are compared with."""
 import teco
+from teco import TokenKind as Kind
 
 ESC = 27
 CARETS = {ord("$"): ord("$"), ord("!"): ord("!"), ord("~"): ord("^"), ord("="): ord("^"), ord("?"): 127, ord("`"): ord("'")}
 BLANKS = b" \t\r"
 # The color of each token that has one alone, by its kind.
-PLAIN = {"digits": "number", "value": "value", "arithmetic": "operator", "level": "command", "command": "command", "byte": "byte",
-         "mark": "loop", "test": "test", "tag": "tag", "escape": "escape"}
+PLAIN = {Kind.DIGITS: "number", Kind.VALUE: "value", Kind.ARITHMETIC: "operator", Kind.LEVEL: "command", Kind.COMMAND: "command",
+         Kind.BYTE: "byte", Kind.MARK: "loop", Kind.TEST: "test", Kind.TAG: "tag", Kind.ESCAPE: "escape"}
 # Tokens of one byte that have another one.
 OTHER = {b"H": "value", b";": "loop", b"|": "test", b"'": "test"}
 # What asks for an undo, a redo or a rewind: a string of its own, and no token.
@@ -61,28 +62,28 @@ def name_end(text, at):
 
 def parts_of(text, token):
     """The parts of a token, each as (end, kind), from its first byte on."""
-    named = token.begin
+    named = token.start
     while text[named] in b"@:":
         named += 1
     yield named, "modifier"
     if token.kind in PLAIN:
-        yield token.end, OTHER.get(text[token.begin : token.end].upper(), PLAIN[token.kind])
+        yield token.end, OTHER.get(text[token.start : token.end].upper(), PLAIN[token.kind])
         return
     end = name_end(text, named)
     yield end, "command"
-    if token.kind in ("register", "set_text"):
+    if token.kind in (Kind.REGISTER, Kind.SET_TEXT):
         end += 1
         yield end, "register"
-    if token.kind == "register":
+    if token.kind is Kind.REGISTER:
         return
-    if b"@" in text[token.begin : named]:
+    if b"@" in text[token.start : named]:
         end += 1
         yield end, "delimiter"
     last = token.end - 1 - token.size
-    if token.kind == "replace":
+    if token.kind is Kind.REPLACE:
         yield last - 1, "text"
         yield last, "delimiter"
-    yield token.end - 1, "jump" if token.kind == "jump" else "text"
+    yield token.end - 1, "jump" if token.kind is Kind.JUMP else "text"
     yield token.end, "delimiter"
 
 
@@ -90,15 +91,16 @@ def kinds_of_text(text):
     """The kind of each byte of command strings, or an empty one between tokens."""
     kinds, at = [""] * len(text), 0
     while True:
-        token = teco.token(text, at)
-        if token.code == teco.NO_TOKEN:
-            return kinds
-        if token.code and text[token.begin] in UNDOS:
-            kinds[token.begin], at = "undo", token.begin + 1
+        try:
+            token = teco.token(text, at)
+        except teco.TokenError as fault:
+            if text[fault.at] not in UNDOS:
+                raise ValueError(f"no token is read at {fault.at}: {text[fault.at:fault.at + 20]}") from fault
+            kinds[fault.at], at = "undo", fault.at + 1
             continue
-        if token.code:
-            raise ValueError(f"no token is read at {token.begin}: {text[token.begin:token.begin + 20]}")
-        begin = token.begin
+        if token is None:
+            return kinds
+        begin = token.start
         for end, kind in parts_of(text, token):
             kinds[begin:end] = [kind] * (end - begin)
             begin = end

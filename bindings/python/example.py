@@ -1,8 +1,9 @@
-"""Opens a session, runs strings, undoes, shows what differs between two states, and marks where a string failed."""
+"""Opens a session, runs strings, undoes, shows what differs between two states, and marks where a string failed,
+and inserts what was pasted."""
 
 import difflib
 
-from teco import NTU, Refused, Session
+from teco import Kind, NothingToUndoError, Session
 
 
 def lines(session):
@@ -18,9 +19,9 @@ with Session(b"apples 3\npears 5\nplums 8\n") as session:
     session.run(b"Y")
     states = [lines(session)]
     for string in (b"<FS \x1b: \x1b; >", b"JFSpears\x1bquinces\x1b", b"ZJIfigs: 2\n\x1b"):
-        code, typed, steps = session.run(string)
+        ran = session.run(string).check()
         states.append(lines(session))
-        print(f"{string!r} ends by {code} after {steps} steps")
+        print(f"{string!r} ended after {ran.steps} steps")
         show(states[-2], states[-1])
 
     session.undo()
@@ -31,20 +32,23 @@ with Session(b"apples 3\npears 5\nplums 8\n") as session:
 
     print("from the first state to this one:")
     show(states[0], lines(session))
-    splice = next(change for change in session.changes(2) if change.kind == "splice")
+    splice = next(change.splice for change in session.changes(2) if change.kind is Kind.SPLICE)
     print(f"an undo takes {splice.gone} bytes out at {splice.at} and puts {splice.came} in")
     print("strings:", len(session.strings), "of them not undone:", session.cursor)
 
     string = b"J3C99C"
-    code, typed, steps, place = session.run_where(string)
-    print(f"this ends by {code}, at the mark:")
+    ran = session.run(string)
+    print(f"this ended by {ran.code}, at the mark:")
     print("   ", string.decode())
-    print("   ", " " * place.at + "^")
-    session.undo()
+    print("   ", " " * ran.place.at + "^")
 
-    for _ in range(3):
+    pasted = b"\x1bHKEX\x1b"
+    session.insert(pasted)
+    print("what is pasted is no command:", pasted in session.text and not session.done)
+
+    for _ in range(session.cursor):
         session.undo()
     try:
         session.undo()
-    except Refused as refused:
-        print("nothing is left to undo:", refused.answer == NTU)
+    except NothingToUndoError as error:
+        print(error)

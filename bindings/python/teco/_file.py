@@ -1,68 +1,90 @@
-"""The file of a session, as the system has it, and how Ctrl-C waits while a request is done and kept."""
+"""The file of a session: a line of each request, so that the session is opened from it again."""
 
 import fcntl
 import os
-import signal
-from contextlib import contextmanager
+from ctypes import byref
+from typing import Callable, List, Tuple, Union
 
-from ._interrupts import is_main
+from ._codes import Entry
+from ._errors import NoMemoryError, UsageError
+from ._library import Line, Room, library
 
 
-class File:
+Path = Union[str, "os.PathLike[str]"]
+
+
+class Journal:
     """A file that is open for the lines of one session. A lock keeps every other session from it, in whatever process."""
 
-    def __init__(self, path, flags):
-        self._file, self._unwritten = os.open(path, flags | os.O_APPEND | os.O_CLOEXEC, 0o600), b""
+    def __init__(self, path: Path, flags: int) -> None:
+        self.line = Line()
+        self._unkept: List[Tuple[Entry, int, bytes]] = []
+        self._unwritten, self._process = b"", os.getpid()
+        self._file = os.open(path, flags | os.O_APPEND | os.O_CLOEXEC, 0o600)
         try:
             fcntl.flock(self._file, fcntl.LOCK_EX | fcntl.LOCK_NB)
         except BaseException:
             self.close()
             raise
 
-    def put(self, line):
-        """Puts a line behind the others, by one write. What the system doesn't take comes before the next line."""
+    def check_process(self) -> None:
+        """Refuses a process that was forked."""
+        if os.getpid() != self._process:
+            raise UsageError("the file of the session belongs to the process that opened it")
+
+    def note(self, kind: Entry, steps: int = 0, text: bytes = b"") -> None:
+        """Notes what a request did, for the next `write`."""
+        self._unkept.append((kind, steps, text))
+
+    def write(self) -> None:
+        """Writes a line of each request that was noted. What fails is left for the next time."""
+        while self._unkept:
+            self.line.kind, self.line.steps, string = self._unkept[0]
+            made = self.made(lambda line: library.teco_record(string, len(string), line))
+            del self._unkept[0]
+            self.put(made)
+
+    def made(self, call: Callable[[object], int]) -> bytes:
+        """The bytes of the line that a call makes. A room that is too small leaves the check as it is."""
+        room = Room(256)
+        for _ in range(2):
+            self.line.room, self.line.room_size = room.place, room.size
+            if call(byref(self.line)):
+                raise NoMemoryError("memory was refused")
+            if self.line.made <= room.size:
+                break
+            room = Room(self.line.made)
+        return room.front(self.line.made)
+
+    def put(self, line: bytes) -> None:
+        """Writes a line behind the others. What the system doesn't take comes before the next line."""
         self._unwritten += line
         while self._unwritten:
             self._unwritten = self._unwritten[os.write(self._file, self._unwritten):]
 
-    def bytes(self):
+    def read(self) -> bytes:
+        """All that the file has."""
         with open(self._file, "rb", closefd=False) as file:
             return file.read()
 
-    def cut(self, size):
+    def cut(self, size: int) -> None:
+        """Cuts off all behind so many bytes."""
         os.ftruncate(self._file, size)
 
-    def close(self):
+    def close(self) -> None:
         """Closes it, once."""
         file, self._file = self._file, -1
         if file != -1:
             os.close(file)
 
 
-def begun(path, head):
-    """A new file with this head. If it can't be written, there is none."""
-    file = File(path, os.O_WRONLY | os.O_CREAT | os.O_EXCL)
+def begun(path: Path, text: bytes, page_lines: int, depth: int) -> Journal:
+    """A new file with the head of a session. If it can't be written, there is none."""
+    journal = Journal(path, os.O_WRONLY | os.O_CREAT | os.O_EXCL)
     try:
-        file.put(head)
+        journal.put(journal.made(lambda line: library.teco_head(text, len(text), page_lines, depth, line)))
     except BaseException:
-        file.close()
+        journal.close()
         os.unlink(path)
         raise
-    return file
-
-
-@contextmanager
-def held(file):
-    """While this lasts, where there is a file, Python's handler of Ctrl-C waits. So it doesn't raise between a request and its line. A string
-    that runs meanwhile is broken off all the same."""
-    came, usual = [], signal.getsignal(signal.SIGINT)
-    if file is None or not is_main() or not callable(usual):
-        yield
-        return
-    signal.signal(signal.SIGINT, lambda *given: came.append(given))
-    try:
-        yield
-    finally:
-        signal.signal(signal.SIGINT, usual)
-        for given in came:
-            usual(*given)
+    return journal

@@ -1,69 +1,201 @@
-"""How Ctrl-C breaks off a string that runs on the main thread."""
+"""How Ctrl-C breaks off a string that runs on the main thread, and how it waits while a request is done and kept."""
 
+import _thread
+import atexit
+import fcntl
 import os
+import select
 import signal
+import sys
+import termios
 import threading
-from contextlib import contextmanager, nullcontext, suppress
+import time
+from contextlib import contextmanager, suppress
+from typing import Iterator, List, Optional, Tuple
+
+from ._stopper import Flag
+
+# The thread ends when for so many milliseconds, or for twice as many, no string has run on the main thread.
+IDLE = 50
+# What the system says of a pipe in which no byte waits.
+EMPTY = bytes(4)
 
 
-class _Listener:
-    """Python calls what handles Ctrl-C when a call of the library is over. So a thread is told of the signal by a pipe, and breaks off the
-    string that runs on the main thread."""
+class Reader:
+    """A thread that reads signals, by the number that the system has for it. It isn't one of `threading`, where a start within a handler of a
+    signal may wait for ever."""
 
-    def __init__(self):
-        self.lock, self.stopper, self.other = threading.RLock(), None, -1
-        self.told, self.tells = os.pipe()
-        os.set_blocking(self.tells, False)
-        threading.Thread(target=self.listen, name="teco", daemon=True).start()
+    def __init__(self) -> None:
+        self.number, self.ended = 0, threading.Event()
 
-    def listen(self):
-        while signals := os.read(self.told, 4096):
-            with self.lock:
-                if signal.SIGINT in signals and self.stopper is not None:
-                    self.stopper.interrupt()
-                if self.other != -1:
-                    with suppress(OSError):
-                        os.write(self.other, signals)
 
-    @contextmanager
-    def break_off(self, stopper):
-        """While this lasts an interrupt is heard. Whoever else is told of signals is told of them too."""
-        with self.lock:
-            before = self.stopper, self.other
-            other = signal.set_wakeup_fd(self.tells, warn_on_full_buffer=False)
-            self.stopper, self.other = stopper, other if other != self.tells else self.other
+class Listener:
+    """Breaks off the string that runs on the main thread when Ctrl-C comes.
+
+    Python calls a handler when a call of the library is over. So while a string runs, Python writes each signal into a pipe, which a
+    thread reads. The thread serves one string after another, and ends soon after the last one.
+
+    A handler of a signal may raise at any point here. What it leaves undone is put right when the next string begins.
+    """
+
+    def __init__(self) -> None:
+        self.lock = threading.RLock()
+        self.reads, self.writes = os.pipe()
+        os.set_blocking(self.reads, False)
+        os.set_blocking(self.writes, False)
+        self.flag: Optional[Flag] = None  # of the string that runs
+        self.others: List[int] = []  # who was told of signals before; within a handler the last one is `writes`
+        self.thread: Optional[Reader] = None
+        self.has_run = False
+
+    def run(self, flag: Flag, call, *arguments) -> int:  # type: ignore[no-untyped-def]
+        """The answer of a call that Ctrl-C breaks off by this flag."""
+        before = self.flag
         try:
-            yield
-        finally:
             with self.lock:
-                signal.set_wakeup_fd(other)
-                self.stopper, self.other = before
+                self.flag, self.has_run = flag, True
+                # one call, so no handler comes between what it gives and the list
+                self.others.extend(map(signal.set_wakeup_fd, (self.writes,)))
+                if before is None and len(self.others) > 1:
+                    self.put_right()
+                if self.thread is None:
+                    self.begin()
+            return call(*arguments)
+        finally:
+            self.flag = before  # the first, before a handler can raise
+            self.end()
+
+    def put_right(self) -> None:
+        """Forgets what a handler that raised has left of an earlier string, and the signals since then."""
+        self.hear(None)
+        self.others = self.others[:1] if self.others[-1] == self.writes else self.others[-1:]
+
+    def begin(self) -> None:
+        """Starts the thread, but where the interpreter ends: none can be started then."""
+        if not sys.is_finalizing():
+            thread = Reader()
+            _thread.start_new_thread(self.listen, (thread,))
+            self.thread = thread
+
+    def end(self) -> None:
+        """Goes back to who was told of signals before. None that has come is left for the next string."""
+        with self.lock:
+            last = self.others[-1:]
+            if last:
+                signal.set_wakeup_fd(last[0])
+            if fcntl.ioctl(self.reads, termios.FIONREAD, EMPTY) != EMPTY:
+                self.hear(self.flag)
+            del self.others[-1:]
+
+    def hear(self, flag: Optional[Flag]) -> None:
+        """Reads the signals that came, and passes them on. Ctrl-C asks the flag."""
+        with suppress(BlockingIOError):
+            signals = os.read(self.reads, 4096)
+            if signal.SIGINT in signals and flag is not None:
+                flag.ask()
+            for other in self.others[:1]:
+                with suppress(OSError):  # also if there is none, which is -1
+                    os.write(other, signals)
+
+    def listen(self, thread: Reader) -> None:
+        """What the thread does."""
+        thread.number = threading.get_native_id()
+        poll = select.poll()
+        poll.register(self.reads, select.POLLIN)
+        goes_on = True
+        while goes_on:
+            came = poll.poll(IDLE)
+            with self.lock:
+                if came:
+                    self.hear(self.flag)
+                if self.thread is thread and not self.others and not self.has_run:
+                    self.thread = None
+                goes_on, self.has_run = self.thread is thread, False
+        thread.ended.set()
+
+    def dismiss(self) -> None:
+        """Ends the thread, unless a string runs."""
+        with self.lock:
+            thread = self.thread
+            if thread is None or self.others:
+                return
+            self.thread = None
+            os.write(self.writes, b"\0")
+        thread.ended.wait()
+        for _ in range(1000):  # until the system has ended it too
+            if not os.path.exists(f"/proc/self/task/{thread.number}"):
+                return
+            time.sleep(0.0001)
 
 
-_listener = None
+_listener: Optional[Listener] = None
 
 
-def is_main():
+def is_main() -> bool:
     """Whether this thread is the one to which signals come."""
-    return threading.current_thread() is threading.main_thread()
+    return threading.get_ident() == threading.main_thread().ident
 
 
-def breaking_off(stopper):
-    """While this lasts Ctrl-C breaks off the string that runs with this stopper, if it comes to this thread."""
+def listener_here() -> Optional[Listener]:
+    """The listener, on the thread to which signals come."""
     global _listener
     if not is_main():
-        return nullcontext()
+        return None
     if _listener is None:
-        _listener = _Listener()
-    return _listener.break_off(stopper)
+        try:
+            signal.signal(signal.SIGINT, signal.getsignal(signal.SIGINT))
+        except (TypeError, ValueError):
+            return None  # Ctrl-C comes to no handler of Python's, or to none of this interpreter
+        _listener = Listener()
+    return _listener
 
 
-def _begin_anew():
-    """A process that was forked has no thread that listens."""
-    global _listener
-    if _listener is not None and _listener.stopper is not None:
-        signal.set_wakeup_fd(_listener.other)
-    _listener = None
+@contextmanager
+def holding() -> Iterator[None]:
+    """While this lasts Python's handler of Ctrl-C waits. A string that runs meanwhile is broken off all the same."""
+    came: List[Tuple[object, ...]] = []
+    usual = signal.getsignal(signal.SIGINT)
+    if not is_main() or not callable(usual):
+        yield
+        return
+    try:
+        with suppress(ValueError):  # of a subinterpreter, to which no signal comes
+            signal.signal(signal.SIGINT, lambda *given: came.append(given))
+        yield
+    finally:
+        with suppress(ValueError):
+            signal.signal(signal.SIGINT, usual)
+        for given in came:
+            usual(*given)  # type: ignore[arg-type]
 
 
-os.register_at_fork(after_in_child=_begin_anew)
+def _before_fork() -> None:
+    """A process is forked without a thread of ours, if it can be, and while no listener is changed."""
+    if _listener is not None:
+        _listener.dismiss()
+        _listener.lock.acquire()
+
+
+def _after_fork() -> None:
+    if _listener is not None:
+        _listener.lock.release()
+
+
+def _in_child() -> None:
+    """A process that was forked has no thread that listens, and a pipe of its own."""
+    if _listener is None:
+        return
+    if _listener.others:
+        signal.set_wakeup_fd(_listener.others[0])
+    os.close(_listener.reads)
+    os.close(_listener.writes)
+    _listener.__init__()  # type: ignore[misc]
+
+
+def _at_exit() -> None:
+    if _listener is not None:
+        _listener.dismiss()
+
+
+os.register_at_fork(before=_before_fork, after_in_parent=_after_fork, after_in_child=_in_child)
+atexit.register(_at_exit)
