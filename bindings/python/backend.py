@@ -14,7 +14,8 @@ import zipfile
 from pathlib import Path
 
 HERE = Path(__file__).resolve().parent
-NAME, VERSION, SUMMARY, PYTHON = re.findall(r'^(?:name|version|description|requires-python) = "(.*)"', (HERE / "pyproject.toml").read_text(), re.M)
+PROJECT = dict(re.findall(r'^([\w-]+) = "(.*)"', (HERE / "pyproject.toml").read_text(), re.M))
+NAME, VERSION, SUMMARY, PYTHON = (PROJECT[it] for it in ("name", "version", "description", "requires-python"))
 INFO = f"{NAME}-{VERSION}.dist-info"
 METADATA = f"Metadata-Version: 2.1\nName: {NAME}\nVersion: {VERSION}\nSummary: {SUMMARY}\nRequires-Python: {PYTHON}\n"
 # The first moment that a zip file can have.

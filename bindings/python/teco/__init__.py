@@ -25,8 +25,8 @@ TECO_SHARED names the shared library. Without it the one beside this file is loa
 
 from ._codes import Code, Kind, TokenKind
 from ._errors import (ClosedError, DamagedError, DoneError, Error, FileError, HeadError, HistoryError, MissingError, NoMemoryError,
-                      NothingToRedoError, NothingToUndoError, ReplayError, SourceError, StoppedError, StringError, TokenError, TooLargeError,
-                      TornHeadError, UsageError)
+                      NothingToRedoError, NothingToUndoError, ReplayError, SourceError, StoppedError, StringError, TokenError,
+                      TooLargeError, TornHeadError, UsageError)
 from ._looks import Strings
 from ._results import Call, Change, Place, Ran, Splice, Token
 from ._session import DEPTH_LIMIT, INPUT_LIMIT, TEXT_LIMIT, Session, resume

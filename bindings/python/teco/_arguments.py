@@ -17,12 +17,12 @@ def as_bytes(text: Bytes) -> bytes:
 
 def as_number(value: "SupportsIndex", most: int) -> int:
     """A whole number from 0 to the most that the library takes."""
-    number = operator.index(value)
-    if 0 <= number <= most:
-        return number
+    number = value if type(value) is int else operator.index(value)
     if number < 0:
         raise ValueError(f"{number} is negative")
-    raise OverflowError(f"{number} is above {most}")
+    if number > most:
+        raise OverflowError(f"{number} is above {most}")
+    return number
 
 
 def as_name(name: str) -> int:

@@ -10,7 +10,7 @@ from ._errors import NoMemoryError, UsageError
 from ._library import Line, Room, library
 
 
-Path = Union[str, "os.PathLike[str]"]
+Path = Union[str, os.PathLike]  # type: ignore[type-arg]
 
 
 class Journal:

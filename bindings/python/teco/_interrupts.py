@@ -22,8 +22,10 @@ EMPTY = bytes(4)
 
 
 class Reader:
-    """A thread that reads signals, by the number that the system has for it. It isn't one of `threading`, where a start within a handler of a
-    signal may wait for ever."""
+    """A thread that reads signals, by the number that the system has for it.
+
+    It isn't one of `threading`, where a start within a handler of a signal may wait for ever.
+    """
 
     def __init__(self) -> None:
         self.number, self.ended = 0, threading.Event()
@@ -43,6 +45,7 @@ class Listener:
         self.reads, self.writes = os.pipe()
         os.set_blocking(self.reads, False)
         os.set_blocking(self.writes, False)
+        self.ours = (self.writes,)
         self.flag: Optional[Flag] = None  # of the string that runs
         self.others: List[int] = []  # who was told of signals before; within a handler the last one is `writes`
         self.thread: Optional[Reader] = None
@@ -55,7 +58,7 @@ class Listener:
             with self.lock:
                 self.flag, self.has_run = flag, True
                 # one call, so no handler comes between what it gives and the list
-                self.others.extend(map(signal.set_wakeup_fd, (self.writes,)))
+                self.others.extend(map(signal.set_wakeup_fd, self.ours))
                 if before is None and len(self.others) > 1:
                     self.put_right()
                 if self.thread is None:
@@ -63,7 +66,13 @@ class Listener:
             return call(*arguments)
         finally:
             self.flag = before  # the first, before a handler can raise
-            self.end()
+            with self.lock:
+                last = self.others[-1:]
+                if last:
+                    signal.set_wakeup_fd(last[0])
+                if fcntl.ioctl(self.reads, termios.FIONREAD, EMPTY) != EMPTY:
+                    self.hear(before)  # what has come is not left for the next string
+                del self.others[-1:]
 
     def put_right(self) -> None:
         """Forgets what a handler that raised has left of an earlier string, and the signals since then."""
@@ -76,16 +85,6 @@ class Listener:
             thread = Reader()
             _thread.start_new_thread(self.listen, (thread,))
             self.thread = thread
-
-    def end(self) -> None:
-        """Goes back to who was told of signals before. None that has come is left for the next string."""
-        with self.lock:
-            last = self.others[-1:]
-            if last:
-                signal.set_wakeup_fd(last[0])
-            if fcntl.ioctl(self.reads, termios.FIONREAD, EMPTY) != EMPTY:
-                self.hear(self.flag)
-            del self.others[-1:]
 
     def hear(self, flag: Optional[Flag]) -> None:
         """Reads the signals that came, and passes them on. Ctrl-C asks the flag."""
@@ -129,11 +128,12 @@ class Listener:
 
 
 _listener: Optional[Listener] = None
+_main = threading.main_thread().ident
 
 
 def is_main() -> bool:
     """Whether this thread is the one to which signals come."""
-    return threading.get_ident() == threading.main_thread().ident
+    return threading.get_ident() == _main
 
 
 def listener_here() -> Optional[Listener]:
@@ -182,7 +182,9 @@ def _after_fork() -> None:
 
 
 def _in_child() -> None:
-    """A process that was forked has no thread that listens, and a pipe of its own."""
+    """A process that was forked has no thread that listens, and a pipe of its own. The thread that forked it is its main one."""
+    global _main
+    _main = threading.main_thread().ident
     if _listener is None:
         return
     if _listener.others:

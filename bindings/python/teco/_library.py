@@ -72,8 +72,9 @@ def _calls():
     session, stopper = POINTER(Handle), POINTER(StopperHandle)
     looks = {
         "strings": (size,), "cursor": (size,), "steps": (c_size_t, word), "string": (c_size_t, *room, size),
-        "changes": (c_size_t, size), "change": (c_size_t, c_size_t, POINTER(MadeChange)), "splice": (c_size_t, c_size_t, POINTER(MadeSplice)),
-        "length": (size,), "pointer": (size,), "lines": (c_size_t, c_size_t, size), "text": (c_size_t, *room, size),
+        "changes": (c_size_t, size), "change": (c_size_t, c_size_t, POINTER(MadeChange)),
+        "splice": (c_size_t, c_size_t, POINTER(MadeSplice)), "length": (size,), "pointer": (size,), "lines": (c_size_t, c_size_t, size),
+        "text": (c_size_t, *room, size),
         "output": (c_size_t, *room, size), "input": (c_size_t, *room, size), "number": (c_uint8, POINTER(c_int32)),
         "register": (c_uint8, *room, size), "search": (*room, size), "pushed": (size,), "place": (size,),
         "done": (), "found": (), "form_feed": (), "either_case": (),
@@ -115,5 +116,4 @@ class Room:
 
     def front(self, size: int) -> bytes:
         """The first bytes."""
-        with memoryview(self._bytes) as room:
-            return bytes(room[:size])
+        return ctypes.string_at(self.place, size)

@@ -74,8 +74,8 @@ class Looks:
         return answer == 1
 
     def _copied(self, call, *arguments) -> bytes:  # type: ignore[no-untyped-def]
-        """Asks for the length, and then for the bytes. The second call gives the length too, which may be another one by then."""
-        length, room = c_size_t(), Room(0)
+        """The bytes are those of one call, which gives their length too: if the room was too small, it is made again with a larger one."""
+        length, room = c_size_t(), Room(4096)
         while True:
             succeeds(self._call(call, *arguments, room.place, room.size, byref(length)))
             if length.value <= room.size:

@@ -20,6 +20,7 @@ class Slot:
         self.run = Run(room=self.room.place, frames=addressof(self.calls), frames_size=MOST_CALLS)
         self.address = byref(self.run)
         self.flag: Optional[Flag] = None
+        self._lent: Optional[Flag] = None
 
     def own_flag(self) -> Flag:
         """A flag that is not asked."""
@@ -28,6 +29,11 @@ class Slot:
         elif self.flag.is_asked:
             self.flag.ask(False)
         return self.flag
+
+    def lend(self, flag: Optional[Flag]) -> None:
+        """Lets the run ask this flag, or none."""
+        if flag is not self._lent:
+            self.run.stopper.at, self._lent = None if flag is None else flag.here.at, flag
 
     def ran(self, answer: int) -> Ran:
         """What came of the string."""
@@ -63,8 +69,3 @@ def give_back(slot: Slot) -> None:
     """Keeps a slot for another run."""
     if slot.room.size == USUAL_ROOM and len(_spare) < 8:
         _spare.append(slot)
-
-
-def lend(slot: Slot, flag: Optional[Flag]) -> None:
-    """Lets the run ask this flag, or none."""
-    slot.run.stopper.at = flag.here.at if flag is not None else None

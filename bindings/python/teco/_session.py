@@ -16,7 +16,7 @@ from ._interrupts import holding, listener_here
 from ._library import NOWHERE, Resumed, library
 from ._looks import Looks, _thread
 from ._results import Ran
-from ._running import USUAL_ROOM, give_back, lend, take
+from ._running import USUAL_ROOM, give_back, take
 from ._stopper import Flag, Stopper, asked_after
 
 INPUT_LIMIT = 2**30
@@ -60,7 +60,8 @@ class Session(Looks):
     b''
     """
 
-    def __init__(self, input: Bytes = b"", *, depth: int = 0, page_lines: int = 0, file: Optional[Path] = None, pinned: bool = True) -> None:
+    def __init__(self, input: Bytes = b"", *, depth: int = 0, page_lines: int = 0, file: Optional[Path] = None,
+                 pinned: bool = True) -> None:
         if "_handle" in self.__dict__:
             raise UsageError("a session is opened once")
         text, depth, lines = as_bytes(input), as_number(depth, NOWHERE), as_number(page_lines, NOWHERE)
@@ -270,7 +271,7 @@ class Session(Looks):
         listener = listener_here() if breakable else None
         if listener is not None and flag is None:
             flag = slot.own_flag()
-        lend(slot, flag)
+        slot.lend(flag)
         with self._lock:
             if listener is None or flag is None:
                 answer = library.teco_run(self._address, text, len(text), slot.address)
@@ -330,7 +331,8 @@ class Session(Looks):
         if not self._lock.acquire(blocking=False):
             return "<teco.Session, in a call of another thread>"
         try:
-            return f"<teco.Session of {len(self)} bytes with the pointer at {self.pointer}, {self.cursor} of {len(self.strings)} strings done>"
+            strings = f"{self.cursor} of {len(self.strings)} strings done"
+            return f"<teco.Session of {len(self)} bytes with the pointer at {self.pointer}, {strings}>"
         finally:
             self._lock.release()
 

@@ -11,7 +11,9 @@ ALL = bytes(range(256))
 
 class TestData(unittest.TestCase):
     def test_pasted(self):
-        for pasted in b"hello\x1bHKEX\x1b", b"x\x1b\x1b", b"/!|\x1b", b"", b"\0", b"^[\x1b@I/a/", b"$", b"@", ALL, ALL * 2, b"\x1bEX\x1b" + ALL + b"/1J":
+        texts = [b"hello\x1bHKEX\x1b", b"x\x1b\x1b", b"/!|\x1b", b"", b"\0", b"^[\x1b@I/a/", b"$", b"@", ALL, ALL * 2,
+                 b"\x1bEX\x1b" + ALL + b"/1J"]
+        for pasted in texts:
             session = Session()
             session.insert(pasted)
             self.assertEqual((session.text, session.pointer, session.done), (pasted, len(pasted), False))
@@ -55,7 +57,8 @@ class TestData(unittest.TestCase):
         session = Session()
         session.insert(bytes(teco.TEXT_LIMIT - 300))
         session.insert(b"x" * 300)
-        for call in (lambda: session.insert(b"y"), lambda: session.set_register("A", ALL), lambda: session.set_register("A", bytes(teco.TEXT_LIMIT + 1))):
+        for call in (lambda: session.insert(b"y"), lambda: session.set_register("A", ALL),
+                     lambda: session.set_register("A", bytes(teco.TEXT_LIMIT + 1))):
             with self.assertRaises(teco.TooLargeError) as raised:
                 call()
             self.assertIsInstance(raised.exception, OverflowError)

@@ -5,6 +5,7 @@ import doctest
 import gc
 import importlib
 import pickle
+import typing
 import unittest
 import weakref
 
@@ -71,7 +72,8 @@ class TestSession(unittest.TestCase):
             session.run(string)
         strings = session.strings
         self.assertEqual((len(strings), list(strings), strings[0], strings[-1]), (3, [b"J", b"ZJ", b"HK"], b"J", b"HK"))
-        self.assertEqual((strings[1:], strings[::-2], list(reversed(strings))[0], b"ZJ" in strings), ([b"ZJ", b"HK"], [b"HK", b"J"], b"HK", True))
+        self.assertEqual((strings[1:], strings[::-2], list(reversed(strings))[0]), ([b"ZJ", b"HK"], [b"HK", b"J"], b"HK"))
+        self.assertIn(b"ZJ", strings)
         for i in 3, -4, 2**70:
             with self.assertRaises(IndexError) as raised:
                 strings[i]
@@ -120,7 +122,8 @@ class TestRefusals(unittest.TestCase):
     def test_arguments(self):
         session = Session(b"one", depth=3)
         for name, most in ("limit", 2**64), ("room", 2**41):
-            for value, error in (-1, ValueError), (-(2**70), ValueError), (most, OverflowError), (2**70, OverflowError), (1.5, TypeError), ("1", TypeError):
+            for value, error in ((-1, ValueError), (-(2**70), ValueError), (most, OverflowError), (2**70, OverflowError), (1.5, TypeError),
+                                 ("1", TypeError)):
                 with self.subTest(name=name, value=value):
                     self.assertRaises(error, session.run, b"J", **{name: value})
         for value in "J", 5, None, ["J"], 1.5:
@@ -133,7 +136,7 @@ class TestRefusals(unittest.TestCase):
             for call in calls:
                 with self.subTest(value=value):
                     self.assertRaises(error, call, value)
-        names = ("\u20ac", ValueError), ("", ValueError), ("AB", ValueError), ("!", ValueError), ("\xe9", ValueError), (65, TypeError), (b"A", TypeError)
+        names = [(it, ValueError) for it in ("\u20ac", "", "AB", "!", "\xe9", "\u0661")] + [(65, TypeError), (b"A", TypeError)]
         for value, error in names:
             for call in session.number, session.register, lambda it: session.set_register(it, b""):
                 with self.subTest(value=value):
@@ -179,7 +182,8 @@ class TestResults(unittest.TestCase):
     def test_check(self):
         session = Session()
         self.assertEqual(session.run(b"J").check(), Ran(None, b"", 1))
-        for string, says in ((b"J Sz\x1b", "SRH, the search found nothing, at byte 2"), (b"@^UA/9J/ MA", "POP, place outside the buffer, in a macro that is called at byte 9"),
+        for string, says in ((b"J Sz\x1b", "SRH, the search found nothing, at byte 2"),
+                             (b"@^UA/9J/ MA", "POP, place outside the buffer, in a macro that is called at byte 9"),
                              (b"2=", "TTY, it prints more than there is room for, at byte 1")):
             with self.assertRaises(teco.StringError) as raised:
                 session.run(string, room=1).check()
@@ -196,7 +200,8 @@ class TestResults(unittest.TestCase):
 
     def test_codes(self):
         self.assertEqual([code.value for code in Code], list(range(1, 33)))
-        self.assertEqual((str(Code.SRH), repr(Code(22)), pickle.loads(pickle.dumps(Code.SRH))), ("SRH, the search found nothing", "<Code.SRH: 22>", Code.SRH))
+        self.assertEqual((str(Code.SRH), f"{Code(22)!r}"), ("SRH, the search found nothing", "<Code.SRH: 22>"))
+        self.assertIs(pickle.loads(pickle.dumps(Code.SRH)), Code.SRH)
         self.assertRaises(ValueError, Code, 33)
         self.assertEqual(([kind.value for kind in Kind], [kind.value for kind in TokenKind]), (list(range(1, 12)), list(range(1, 16))))
 
@@ -227,9 +232,11 @@ class TestResults(unittest.TestCase):
             it = getattr(teco, name)
             if not isinstance(it, int):
                 self.assertTrue(it.__doc__ and it.__module__ == "teco", name)
+                self.assertTrue(typing.get_type_hints(it) or isinstance(it, type), name)
         for name, it in vars(Session).items() | vars(Session.__mro__[1]).items():
             if not name.startswith("_"):
                 self.assertTrue(it.__doc__, name)
+                self.assertIn("return", typing.get_type_hints(getattr(it, "fget", it)), name)
 
     def test_docs(self):
         tried = 0

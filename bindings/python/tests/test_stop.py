@@ -130,7 +130,7 @@ class TestInterrupt(unittest.TestCase):
         signal.signal(signal.SIGINT, handle)
         later(interrupt)
         self.assertTrue(session.run(**ENDLESS).stopped)
-        self.assertEqual((came[:2], session.run(b"J").code, signal.set_wakeup_fd(-1)), ([None, None] if len(came) > 3 else came[:2], None, -1))
+        self.assertEqual((came, session.run(b"J").code, signal.set_wakeup_fd(-1)), ([None, None, True], None, -1))
 
     def test_no_later_string(self):
         """A signal that comes at any moment of a short string breaks off no other one."""
@@ -162,7 +162,7 @@ class TestInterrupt(unittest.TestCase):
                 raise KeyboardInterrupt
 
         signal.signal(signal.SIGINT, handle)
-        for _ in range(3000):
+        for _ in range(1000):
             try:
                 raises.append(True)
                 threading.Timer(0.0001, interrupt).start()
@@ -171,7 +171,7 @@ class TestInterrupt(unittest.TestCase):
             except KeyboardInterrupt:
                 raised += 1
             self.assertEqual(session.run(b"9="), Ran(None, b"9\r\n", 2))
-        self.assertEqual((signal.set_wakeup_fd(-1), raised), (tells, 3000))
+        self.assertEqual((signal.set_wakeup_fd(-1), raised), (tells, 1000))
         os.close(told)
         os.close(tells)
 

@@ -24,7 +24,8 @@ class TestPinned(unittest.TestCase):
                      lambda: session.changes(0), lambda: list(session.strings), session.transaction().__enter__):
             with self.assertRaisesRegex(teco.UsageError, "the thread that opened it"):
                 elsewhere(call)
-        self.assertEqual((elsewhere(lambda: repr(session)), session.run(b"YHT")), ("<teco.Session of another thread>", Ran(None, b"one", 3)))
+        self.assertEqual(elsewhere(lambda: repr(session)), "<teco.Session of another thread>")
+        self.assertEqual(session.run(b"YHT"), Ran(None, b"one", 3))
 
     def test_numbers_come_again(self):
         """A later thread that has the number of the thread that opened the session is refused."""
