@@ -1,5 +1,6 @@
 """What can be read of a session."""
 
+import operator
 import os
 import threading
 import weakref
@@ -233,7 +234,7 @@ class Strings(Sequence[bytes]):
     def __getitem__(self, i: Union[int, slice]) -> Union[bytes, List[bytes]]:
         if isinstance(i, slice):
             return [self[k] for k in range(*i.indices(len(self)))]
-        at = i.__index__()
+        at = operator.index(i)
         if at < 0:
             at += len(self)
         if not 0 <= at <= NOWHERE:

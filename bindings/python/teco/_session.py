@@ -227,7 +227,7 @@ class Session(Looks):
         """While this lasts one request is made and noted, and no signal handler makes another one."""
         with self._entered():
             if self._is_busy:
-                raise UsageError("a request is under way, and its line comes first in the file")
+                raise UsageError("a signal handler makes no request while another one is under way")
             if self._file is not None:
                 self._file.check_process()
             with holding():

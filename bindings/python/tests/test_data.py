@@ -1,9 +1,12 @@
 """Data that is not a command, and transactions."""
 
 import random
+import signal
+import threading
 import unittest
 
 import teco
+from common import interrupt
 from teco import Code, Session
 
 ALL = bytes(range(256))
@@ -151,6 +154,30 @@ class TestTransaction(unittest.TestCase):
             session.run(b"Iy\x1b")
             raise KeyError
         self.assertEqual((session.text, list(session.strings)), (b"abcde", [b"Ie\x1b"]))
+
+    def test_interrupted(self):
+        """Ctrl-C at any moment leaves all strings of a transaction, or none."""
+        raises, raised = [], 0
+
+        def handle(*_):
+            if raises:
+                raises.clear()
+                raise KeyboardInterrupt
+
+        self.addCleanup(signal.signal, signal.SIGINT, signal.signal(signal.SIGINT, handle))
+        session = Session(depth=50)
+        for i in range(500):
+            try:
+                raises.append(True)
+                threading.Timer(i / 1000000, interrupt).start()
+                while raises:
+                    with session.transaction():
+                        for _ in range(5):
+                            session.run(b"Ia\x1b")
+            except KeyboardInterrupt:
+                raised += 1
+            self.assertEqual(len(session) % 5, 0)
+        self.assertEqual(raised, 500)
 
     def test_closed(self):
         with self.assertRaises(KeyError), self.session.transaction():

@@ -78,6 +78,8 @@ class TestSession(unittest.TestCase):
             with self.assertRaises(IndexError) as raised:
                 strings[i]
             self.assertIsInstance(raised.exception, teco.Error)
+        for i in "1", 1.5, None:
+            self.assertRaises(TypeError, strings.__getitem__, i)
         session.run(b"J")
         self.assertEqual((len(strings), repr(strings)), (4, "<teco.Strings, 4 of them>"))
 
