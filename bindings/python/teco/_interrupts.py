@@ -2,15 +2,16 @@
 
 import _thread
 import atexit
-import fcntl
+import functools
 import os
 import select
 import signal
 import sys
-import termios
 import threading
 import time
 from contextlib import contextmanager, suppress
+from fcntl import ioctl
+from termios import FIONREAD
 from typing import Iterator, List, Optional, Tuple
 
 from ._stopper import Flag
@@ -19,6 +20,8 @@ from ._stopper import Flag
 IDLE = 50
 # What the system says of a pipe in which no byte waits.
 EMPTY = bytes(4)
+# Sets who is told of signals, and gives who was.
+tell = functools.partial(signal.set_wakeup_fd, warn_on_full_buffer=False)
 
 
 class Reader:
@@ -58,7 +61,7 @@ class Listener:
             with self.lock:
                 self.flag, self.has_run = flag, True
                 # one call, so no handler comes between what it gives and the list
-                self.others.extend(map(signal.set_wakeup_fd, self.ours))
+                self.others.extend(map(tell, self.ours))
                 if before is None and len(self.others) > 1:
                     self.put_right()
                 if self.thread is None:
@@ -70,7 +73,7 @@ class Listener:
                 last = self.others[-1:]
                 if last:
                     signal.set_wakeup_fd(last[0])
-                if fcntl.ioctl(self.reads, termios.FIONREAD, EMPTY) != EMPTY:
+                if ioctl(self.reads, FIONREAD, EMPTY) != EMPTY:
                     self.hear(before)  # what has come is not left for the next string
                 del self.others[-1:]
 
@@ -120,7 +123,7 @@ class Listener:
                 return
             self.thread = None
             os.write(self.writes, b"\0")
-        thread.ended.wait()
+        thread.ended.wait(1)
         for _ in range(1000):  # until the system has ended it too
             if not os.path.exists(f"/proc/self/task/{thread.number}"):
                 return

@@ -27,7 +27,7 @@ class Place:
     """The calls that are open, the latest first."""
 
 
-@dataclass(frozen=True)
+@dataclass(frozen=True, init=False)
 class Ran:
     """What came of a command string. It is recorded however it ended, until it is undone."""
     code: Optional[Code]
@@ -40,6 +40,10 @@ class Ran:
     """Where it stopped: None if it ended successfully, or if no memory was found for the place."""
     stopped: bool = False
     """Whether it was broken off: by a stopper, by Ctrl-C, or since its time was over. The code is LIM then."""
+
+    def __init__(self, code: Optional[Code], printed: bytes, steps: int, place: Optional[Place] = None, stopped: bool = False) -> None:
+        # as dataclasses would, in half the time
+        self.__dict__.update(code=code, printed=printed, steps=steps, place=place, stopped=stopped)
 
     def check(self) -> "Ran":
         """Itself if the string ended successfully. Else raises StringError, or StoppedError if it was broken off."""

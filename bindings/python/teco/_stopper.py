@@ -76,10 +76,11 @@ def asked_after(seconds: float, flag: Flag) -> Iterator[None]:
         if not ended.wait(min(seconds, threading.TIMEOUT_MAX)):
             flag.ask()
 
-    clock = threading.Thread(target=wait, name="teco timeout")
-    clock.start()
+    clock = threading.Thread(target=wait, name="teco timeout", daemon=True)
     try:
+        clock.start()
         yield
     finally:
         ended.set()
-        clock.join()
+        if clock.is_alive():
+            clock.join()
