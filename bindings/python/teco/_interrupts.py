@@ -70,17 +70,23 @@ class Listener:
         finally:
             self.flag = before  # the first, before a handler can raise
             with self.lock:
-                last = self.others[-1:]
-                if last:
-                    signal.set_wakeup_fd(last[0])
+                for last in self.others[-1:]:
+                    self.tell_again(last)
                 if ioctl(self.reads, FIONREAD, EMPTY) != EMPTY:
-                    self.hear(before)  # what has come is not left for the next string
+                    self.hear(None)  # what has come is not left for the next string
                 del self.others[-1:]
 
     def put_right(self) -> None:
         """Forgets what a handler that raised has left of an earlier string, and the signals since then."""
         self.hear(None)
         self.others = self.others[:1] if self.others[-1] == self.writes else self.others[-1:]
+
+    def tell_again(self, other: int) -> None:
+        """Tells another one of signals, unless it has gone."""
+        try:
+            signal.set_wakeup_fd(other)
+        except (OSError, ValueError):
+            signal.set_wakeup_fd(-1)
 
     def begin(self) -> None:
         """Starts the thread, but where the interpreter ends: none can be started then."""
@@ -194,7 +200,7 @@ def _in_child() -> None:
         signal.set_wakeup_fd(_listener.others[0])
     os.close(_listener.reads)
     os.close(_listener.writes)
-    _listener.__init__()  # type: ignore[misc]
+    _listener.__init__()  # type: ignore[misc]  # the same one, since a handler may have forked within its `run`
 
 
 def _at_exit() -> None:

@@ -4,8 +4,9 @@ import operator
 import os
 import threading
 import weakref
+from contextlib import contextmanager
 from ctypes import byref, c_int32, c_size_t, c_uint64
-from typing import List, Optional, Sequence, Union, overload
+from typing import Iterator, List, Optional, Sequence, Union, overload
 
 from ._arguments import as_name, as_number
 from ._codes import Kind
@@ -14,14 +15,14 @@ from ._library import NOWHERE, Handle, MadeChange, MadeSplice, Room, library
 from ._results import Change, Splice
 
 
-class _Thread(threading.local):
+class _Here(threading.local):
     """Has another object on each thread, also on one that has the number of a thread that has ended."""
 
     def __init__(self) -> None:
         self.mark = object()
 
 
-_thread = _Thread()
+here = _Here()
 _sessions: "weakref.WeakSet[Looks]" = weakref.WeakSet()
 
 
@@ -47,14 +48,14 @@ class Looks:
     def __init__(self, pinned: bool) -> None:
         self._handle = Handle()
         self._address = byref(self._handle)
-        self._owner = _thread.mark if pinned else None
+        self._owner = here.mark if pinned else None
         self._lock = threading.RLock()
         self._requests = 0
         _sessions.add(self)
 
     def _check_thread(self) -> None:
         """Refuses a thread that may make no call."""
-        if self._owner is not None and self._owner is not _thread.mark:
+        if self._owner is not None and self._owner is not here.mark:
             raise UsageError("the session stays on the thread that opened it: one with pinned=False goes to others")
 
     def _call(self, call, *arguments) -> int:  # type: ignore[no-untyped-def]
@@ -62,6 +63,13 @@ class Looks:
         self._check_thread()
         with self._lock:
             return call(self._address, *arguments)
+
+    @contextmanager
+    def _entered(self) -> Iterator[None]:
+        """While this lasts no other thread is in the session."""
+        self._check_thread()
+        with self._lock:
+            yield
 
     def _count(self, call, *arguments) -> int:  # type: ignore[no-untyped-def]
         count = c_size_t()
@@ -185,7 +193,7 @@ class Looks:
         They describe the next undo of the string, or its next redo if it is undone: so an editor draws no more than what differs.
         """
         i = as_number(i, NOWHERE)
-        with self._lock:
+        with self._entered():
             for _ in range(1000):
                 requests = self._requests
                 try:

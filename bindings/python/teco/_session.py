@@ -14,7 +14,7 @@ from ._errors import CLOSED, DamagedError, NothingToUndoError, TooLargeError, Us
 from ._file import Journal, Path, begun
 from ._interrupts import holding, listener_here
 from ._library import NOWHERE, Resumed, library
-from ._looks import Looks, _thread
+from ._looks import Looks, here
 from ._results import Ran
 from ._running import USUAL_ROOM, give_back, take
 from ._stopper import Flag, Stopper, asked_after
@@ -35,7 +35,7 @@ class _Transaction:
     """How many strings before it are not undone, and whether a string was run in it."""
 
     def __init__(self, floor: int) -> None:
-        self.floor, self.has_run, self.mark = floor, False, _thread.mark
+        self.floor, self.has_run, self.mark = floor, False, here.mark
 
 
 class Session(Looks):
@@ -111,7 +111,7 @@ class Session(Looks):
         """
         if self._owner is not None:
             raise UsageError("a session that goes from thread to thread is opened with pinned=False")
-        if any(it.mark is _thread.mark for it in self._transactions):
+        if any(it.mark is here.mark for it in self._transactions):
             raise UsageError("a transaction stays on its thread: call run")
         stopper = Stopper()
 
@@ -195,14 +195,15 @@ class Session(Looks):
         (0, 0)
         """
         with self._entered():
-            self._transactions.append(_Transaction(self.cursor))
+            transaction, outer = _Transaction(self.cursor), len(self._transactions)
             try:
+                self._transactions.append(transaction)
                 yield self
             except BaseException:
-                self._roll_back(self._transactions[-1])
+                self._roll_back(transaction)
                 raise
             finally:
-                self._transactions.pop()
+                del self._transactions[outer:]
 
     def close(self) -> None:
         """Gives back the memory of the session, and closes its file."""
@@ -214,13 +215,6 @@ class Session(Looks):
     def closed(self) -> bool:
         """Whether it is closed."""
         return self._handle.at is None
-
-    @contextmanager
-    def _entered(self) -> Iterator[None]:
-        """While this lasts no other thread is in the session."""
-        self._check_thread()
-        with self._lock:
-            yield
 
     @contextmanager
     def _keeping(self) -> Iterator[None]:

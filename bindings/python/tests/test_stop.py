@@ -117,6 +117,17 @@ class TestInterrupt(unittest.TestCase):
         self.assertTrue(ran.stopped and came == [True])
         self.assertEqual((os.read(told, 9), signal.set_wakeup_fd(-1)), (bytes([signal.SIGINT]), tells))
 
+    def test_gone(self):
+        """Whoever was told of signals may be gone when the string has ended."""
+        told, tells = os.pipe()
+        os.set_blocking(tells, False)
+        signal.set_wakeup_fd(tells)
+        signal.signal(signal.SIGINT, lambda *_: os.close(tells))
+        later(interrupt)
+        self.assertTrue(Session().run(**ENDLESS).stopped)
+        self.assertEqual(signal.set_wakeup_fd(-1), -1)
+        os.close(told)
+
     def test_within_handler(self):
         """A handler runs strings too, and each Ctrl-C breaks off the one that runs then."""
         session, other, came = Session(), Session(), []
