@@ -32,10 +32,12 @@ def library():
     built = HERE.parent.parent / "out" / "libteco.so"
     if named or built.exists():
         return Path(named or built).read_bytes()
-    asked = subprocess.run(["pkg-config", "--variable=libdir", "teco"], stdout=subprocess.PIPE, universal_newlines=True, check=False)
-    if asked.returncode:
-        raise FileNotFoundError("no libteco.so: make it by `make out/libteco.so`, or name it by TECO_SHARED")
-    return Path(asked.stdout.strip(), "libteco.so").read_bytes()
+    words = ["pkg-config", "--variable=libdir", "teco"]
+    try:
+        folder = subprocess.run(words, stdout=subprocess.PIPE, universal_newlines=True, check=True).stdout
+    except (OSError, subprocess.CalledProcessError) as reason:
+        raise FileNotFoundError("no libteco.so: make it by `make out/libteco.so`, or name it by TECO_SHARED") from reason
+    return Path(folder.strip(), "libteco.so").read_bytes()
 
 
 def platform_of(shared):

@@ -6,7 +6,7 @@ import threading
 import weakref
 from contextlib import contextmanager
 from ctypes import byref, c_int32, c_size_t, c_uint64
-from typing import Iterator, List, Optional, Sequence, Union, overload
+from typing import Any, Callable, Iterator, List, Optional, Sequence, Union, overload
 
 from ._arguments import as_name, as_number
 from ._codes import Kind
@@ -90,6 +90,21 @@ class Looks:
             if length.value <= room.size:
                 return room.front(length.value)
             room = Room(length.value)
+
+    def _steady(self, look: Callable[[], Any]) -> Any:
+        """What a look of several calls gives. It is made again if the session has changed meanwhile."""
+        with self._entered():
+            for _ in range(1000):
+                requests = self._requests
+                try:
+                    seen = look()
+                except MissingError:
+                    if requests == self._requests:
+                        raise
+                    continue
+                if requests == self._requests:
+                    return seen
+        raise UsageError("signal handlers change the session all the time")
 
     @property
     def text(self) -> bytes:
@@ -193,18 +208,7 @@ class Looks:
         They describe the next undo of the string, or its next redo if it is undone: so an editor draws no more than what differs.
         """
         i = as_number(i, NOWHERE)
-        with self._entered():
-            for _ in range(1000):
-                requests = self._requests
-                try:
-                    changes = [self._change(i, k) for k in range(self._count(library.teco_changes, i))]
-                except MissingError:
-                    if requests == self._requests:
-                        raise
-                    continue
-                if requests == self._requests:
-                    return changes
-        raise UsageError("signal handlers change the session all the time")
+        return self._steady(lambda: [self._change(i, k) for k in range(self._count(library.teco_changes, i))])
 
     def _change(self, i: int, k: int) -> Change:
         made, splice = MadeChange(), None
@@ -241,13 +245,14 @@ class Strings(Sequence[bytes]):
 
     def __getitem__(self, i: Union[int, slice]) -> Union[bytes, List[bytes]]:
         if isinstance(i, slice):
-            return [self[k] for k in range(*i.indices(len(self)))]
+            return self._session._steady(lambda: [self._string(k) for k in range(*i.indices(len(self)))])
         at = operator.index(i)
-        if at < 0:
-            at += len(self)
-        if not 0 <= at <= NOWHERE:
+        return self._session._steady(lambda: self._string(at if at >= 0 else at + len(self)))
+
+    def _string(self, i: int) -> bytes:
+        if not 0 <= i <= NOWHERE:
             raise refused(OUTSIDE)
-        return self._session._copied(library.teco_string, at)
+        return self._session._copied(library.teco_string, i)
 
     def __repr__(self) -> str:
         return f"<teco.Strings, {len(self)} of them>"

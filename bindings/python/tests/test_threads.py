@@ -155,6 +155,23 @@ class TestHandlers(unittest.TestCase):
         session.redo()
         self.alarms(lambda n: n % 8 or (session.redo() if n % 16 else session.undo()), 1, lambda: self.assertIn(session.changes(0), both))
 
+    def test_strings(self):
+        """Several calls see one state: the strings of a slice, and the last one."""
+        session = Session()
+        for string in b"J", b"ZJ", b"HK":
+            session.run(string)
+
+        def handle(n):
+            if n % 8 == 0:
+                session.undo()
+                session.run(b"HK" if n % 16 else b"HT")
+
+        def look():
+            self.assertIn(session.strings[-1], (b"HK", b"HT"))
+            self.assertIn(session.strings[-3:], ([b"J", b"ZJ", b"HK"], [b"J", b"ZJ", b"HT"]))
+
+        self.alarms(handle, 1, look)
+
     def test_requests(self):
         """Strings that run within handlers, and are looked at there."""
         session, wanted = Session(depth=5), []
