@@ -116,4 +116,4 @@ class Room:
 
     def front(self, size: int) -> bytes:
         """The first bytes."""
-        return ctypes.string_at(self.place, size)
+        return bytes(memoryview(self._bytes)[:size])

@@ -197,7 +197,7 @@ class Looks:
         return self._count(library.teco_cursor)
 
     def steps(self, i: int) -> int:
-        """How many steps string `i` took. Strings are counted from 0."""
+        """How many steps string `i` took. Strings are counted from 0. MissingError is raised if there is none."""
         steps = c_uint64()
         succeeds(self._call(library.teco_steps, as_number(i, NOWHERE), byref(steps)))
         return steps.value
@@ -206,6 +206,7 @@ class Looks:
         """The changes of string `i`, counted from 0, in the order in which its steps made them.
 
         They describe the next undo of the string, or its next redo if it is undone: so an editor draws no more than what differs.
+        MissingError is raised if there is no such string.
         """
         i = as_number(i, NOWHERE)
         return self._steady(lambda: [self._change(i, k) for k in range(self._count(library.teco_changes, i))])

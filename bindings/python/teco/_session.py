@@ -49,7 +49,8 @@ class Session(Looks):
     goes on with it. If that fails, OSError is raised, but the request is done, and its line comes with the next one. Nothing is synced to
     the disk. A signal handler makes no request of such a session while another one is made, and may not raise then.
 
-    A session stays on the thread that opened it. With `pinned=False` it goes from thread to thread, one at a time: a lock sees to that.
+    A session stays on the thread that opened it. With `pinned=False` it goes from thread to thread, one at a time, under a lock: nothing
+    is proved of that, but it is tried.
 
     >>> with Session(b"a cat sat") as session:
     ...     ran = session.run(b"Y FScat\\x1bdog\\x1b").check()
@@ -82,7 +83,10 @@ class Session(Looks):
 
         A string that fails raises nothing: `check()` of the result does. It takes at most `limit` steps, which are 1,000,000, or with a
         timeout any number, and prints at most `room` bytes. After `timeout` seconds, for which a thread waits, or when the `stopper` is
-        asked, it is broken off. On the main thread Ctrl-C does that too, and then Python's handler runs.
+        asked, it is broken off.
+
+        On the main thread Ctrl-C does that too, and then Python's handler runs. A thread listens for it while strings run, and ends a
+        tenth of a second after the last one, or before the process is forked.
 
         A string never holds data of others: see `insert`. DoneError, NoMemoryError and ClosedError say that it was not begun.
         """
@@ -163,15 +167,18 @@ class Session(Looks):
         return self._request_run(string, MOST_STEPS, 0, breakable=False).check()
 
     def undo(self) -> None:
-        """Goes back to the state before the last string that is not undone. Asks for no memory of the library."""
+        """Goes back to the state before the last string that is not undone. NothingToUndoError is raised if there is none."""
         self._request(library.teco_undo, Entry.UNDID)
 
     def redo(self) -> None:
-        """Goes on to the state after the first undone string. Asks for no memory of the library."""
+        """Goes on to the state after the first undone string. NothingToRedoError is raised if there is none."""
         self._request(library.teco_redo, Entry.REDID)
 
     def rewind(self, steps: int) -> None:
-        """Goes back to the state after the first steps of the last string that is not undone, and drops the undone ones."""
+        """Goes back to the state after the first `steps` steps of the last string that is not undone, and drops the undone ones.
+
+        NothingToUndoError is raised if there is no such string.
+        """
         self._request(library.teco_rewind, Entry.REWOUND, as_number(steps, MOST_STEPS))
 
     def forget(self) -> None:
