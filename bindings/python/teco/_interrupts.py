@@ -2,7 +2,6 @@
 
 import _thread
 import atexit
-import functools
 import os
 import select
 import signal
@@ -20,8 +19,6 @@ from ._stopper import Flag
 IDLE = 50
 # What the system says of a pipe in which no byte waits.
 EMPTY = bytes(4)
-# Sets who is told of signals, and gives who was.
-tell = functools.partial(signal.set_wakeup_fd, warn_on_full_buffer=False)
 
 
 class Reader:
@@ -61,7 +58,7 @@ class Listener:
             with self.lock:
                 self.flag, self.has_run = flag, True
                 # one call, so no handler comes between what it gives and the list
-                self.others.extend(map(tell, self.ours))
+                self.others.extend(map(signal.set_wakeup_fd, self.ours))
                 if before is None and len(self.others) > 1:
                     self.put_right()
                 if self.thread is None:
@@ -71,7 +68,10 @@ class Listener:
             self.flag = before  # the first, before a handler can raise
             with self.lock:
                 for last in self.others[-1:]:
-                    self.tell_again(last)
+                    try:
+                        signal.set_wakeup_fd(last)
+                    except (OSError, ValueError):
+                        signal.set_wakeup_fd(-1)  # it has gone
                 if ioctl(self.reads, FIONREAD, EMPTY) != EMPTY:
                     self.hear(None)  # what has come is not left for the next string
                 del self.others[-1:]
@@ -80,13 +80,6 @@ class Listener:
         """Forgets what a handler that raised has left of an earlier string, and the signals since then."""
         self.hear(None)
         self.others = self.others[:1] if self.others[-1] == self.writes else self.others[-1:]
-
-    def tell_again(self, other: int) -> None:
-        """Tells another one of signals, unless it has gone."""
-        try:
-            signal.set_wakeup_fd(other)
-        except (OSError, ValueError):
-            signal.set_wakeup_fd(-1)
 
     def begin(self) -> None:
         """Starts the thread, but where the interpreter ends: none can be started then."""

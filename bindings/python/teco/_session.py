@@ -26,6 +26,8 @@ DEPTH_LIMIT = 100_000
 TEXT_LIMIT = 2**24
 """The most bytes that the buffer, a register or a search text may have."""
 
+# The least answer of a string that was not begun.
+NOT_RUN = Code.END.value
 USUAL_LIMIT, MOST_STEPS, MOST_ROOM = 1_000_000, 2**64 - 1, 2**40
 # How the reading of a file ended: at a line that was changed, or that tells nothing known.
 CHANGED, UNKNOWN = 2, 3
@@ -96,16 +98,16 @@ class Session(Looks):
         else:
             steps = as_number(limit, MOST_STEPS)
         if timeout is None and stopper is None:
-            return self._request_run(text, steps, size)
+            return self._run(text, steps, size)
         if timeout is not None and not timeout >= 0:
             raise ValueError(f"a time is at least 0 seconds, and not {timeout}")
         if not isinstance(stopper, (Stopper, type(None))):
             raise TypeError(f"a Stopper is needed, and not {type(stopper).__name__}")
         flag = Flag() if stopper is None else stopper._begin()
         if timeout is None:
-            return self._request_run(text, steps, size, flag)
+            return self._run(text, steps, size, flag)
         with asked_after(timeout, flag):
-            return self._request_run(text, steps, size, flag)
+            return self._run(text, steps, size, flag)
 
     async def run_async(self, string: Bytes, *, limit: Optional[int] = None, room: int = USUAL_ROOM,
                         timeout: Optional[float] = None) -> Ran:
@@ -164,7 +166,7 @@ class Session(Looks):
             raise TooLargeError(f"the buffer has at most {TEXT_LIMIT} bytes")
 
     def _run_data(self, string: bytes) -> Ran:
-        return self._request_run(string, MOST_STEPS, 0, breakable=False).check()
+        return self._run(string, MOST_STEPS, 0, breakable=False).check()
 
     def undo(self) -> None:
         """Goes back to the state before the last string that is not undone. NothingToUndoError is raised if there is none."""
@@ -254,19 +256,19 @@ class Session(Looks):
             succeeds(self._call(call, *steps))
             self._note(kind, *steps)
 
-    def _request_run(self, text: bytes, limit: int, size: int, flag: Optional[Flag] = None, breakable: bool = True) -> Ran:
+    def _run(self, text: bytes, limit: int, size: int, flag: Optional[Flag] = None, breakable: bool = True) -> Ran:
         self._requests += 1
         if self._file is None and not self._transactions:
-            return self._run(text, limit, size, flag, breakable)
+            return self._call_run(text, limit, size, flag, breakable)
         with self._keeping():
             drops = self._drops()
-            ran = self._run(text, limit, size, flag, breakable)
+            ran = self._call_run(text, limit, size, flag, breakable)
             for transaction in self._transactions:
                 transaction.floor, transaction.has_run = transaction.floor - drops, True
             self._note(Entry.RAN, ran.steps, text)
         return ran
 
-    def _run(self, text: bytes, limit: int, size: int, flag: Optional[Flag], breakable: bool) -> Ran:
+    def _call_run(self, text: bytes, limit: int, size: int, flag: Optional[Flag], breakable: bool) -> Ran:
         self._check_thread()
         slot = take(limit, size)
         listener = listener_here() if breakable else None
@@ -278,7 +280,7 @@ class Session(Looks):
                 answer = library.teco_run(self._address, text, len(text), slot.address)
             else:
                 answer = listener.run(flag, library.teco_run, self._address, text, len(text), slot.address)
-        if answer >= Code.END.value:
+        if answer >= NOT_RUN:
             raise refused(answer)
         ran = slot.ran(answer)
         give_back(slot)
