@@ -32,7 +32,8 @@ NAMES = teco teco-debug tecol teco-term teco-screen
 PAGES = README.md NOTICE CHANGELOG.md SECURITY.md CONTRIBUTING.md docs/*.md docs/*.svg bench/*.md bench/*.svg crates/*/README.md tools/README.md
 EDITORS = editors/README.md editors/vim/*/*.vim editors/emacs/*.el editors/textmate/*.json
 EXAMPLES = examples/*.md examples/*.tec examples/*.in examples/*.out examples/*.typed
-OVER_LIBRARY = bindings/c/edit.c bindings/c/stop.c bindings/rattle/edit.rt.txt bindings/python/*.py bindings/python/pyproject.toml bindings/python/teco/*.py bindings/python/teco/py.typed \
+OVER_LIBRARY = bindings/c/edit.c bindings/c/stop.c bindings/rattle/edit.rt.txt \
+    bindings/python/*.py bindings/python/pyproject.toml bindings/python/teco/*.py bindings/python/teco/py.typed \
     bindings/rust/Cargo.* bindings/rust/*/Cargo.toml bindings/rust/*/*.rs bindings/rust/*/*/*.rs
 PROGRAMS = out/teco out/teco-debug out/tecol out/teco-term out/teco-screen
 VERSION != sed -n 's/^pub const VERSION: &str = "\(.*\)";$$/\1/p' crates/teco_cli/src/*.rt

@@ -21,6 +21,32 @@ def interrupt():
     os.kill(os.getpid(), signal.SIGINT)
 
 
+class Raising:
+    """A handler of a signal that raises KeyboardInterrupt, but only while `tries` calls."""
+
+    def __init__(self):
+        self.raises, self.has_come, self.raised = False, False, 0
+
+    def __call__(self, *_):
+        self.has_come = True
+        if self.raises:
+            self.raises = False
+            self.raised += 1
+            raise KeyboardInterrupt
+
+    def tries(self, call, seconds):
+        """Calls until the signal has come, which is after some seconds."""
+        self.has_come = False
+        threading.Timer(seconds, interrupt).start()
+        try:
+            self.raises = True
+            while not self.has_come:
+                call()
+            self.raises = False
+        except KeyboardInterrupt:
+            pass
+
+
 def elsewhere(call):
     """What a call gives on another thread, or raises there."""
     given = []

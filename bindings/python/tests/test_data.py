@@ -2,11 +2,10 @@
 
 import random
 import signal
-import threading
 import unittest
 
 import teco
-from common import interrupt
+from common import Raising
 from teco import Code, Session
 
 ALL = bytes(range(256))
@@ -157,27 +156,18 @@ class TestTransaction(unittest.TestCase):
 
     def test_interrupted(self):
         """Ctrl-C at any moment leaves all strings of a transaction, or none."""
-        raises, raised = [], 0
-
-        def handle(*_):
-            if raises:
-                raises.clear()
-                raise KeyboardInterrupt
-
+        handle, session = Raising(), Session(depth=50)
         self.addCleanup(signal.signal, signal.SIGINT, signal.signal(signal.SIGINT, handle))
-        session = Session(depth=50)
-        for i in range(500):
-            try:
-                raises.append(True)
-                threading.Timer(i / 1000000, interrupt).start()
-                while raises:
-                    with session.transaction():
-                        for _ in range(5):
-                            session.run(b"Ia\x1b")
-            except KeyboardInterrupt:
-                raised += 1
+
+        def work():
+            with session.transaction():
+                for _ in range(5):
+                    session.run(b"Ia\x1b")
+
+        for i in range(200):
+            handle.tries(work, i / 400000)
             self.assertEqual(len(session) % 5, 0)
-        self.assertEqual(raised, 500)
+        self.assertGreater(handle.raised, 20)
 
     def test_closed(self):
         with self.assertRaises(KeyError), self.session.transaction():

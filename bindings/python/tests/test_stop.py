@@ -7,7 +7,7 @@ import time
 import unittest
 
 import teco
-from common import ENDLESS, elsewhere, in_child, interrupt, later
+from common import ENDLESS, Raising, elsewhere, in_child, interrupt, later
 from teco import Code, Ran, Session, Stopper
 
 LATE = 10**6
@@ -163,26 +163,14 @@ class TestInterrupt(unittest.TestCase):
 
     def test_raised_anywhere(self):
         """A handler that raises at any point leaves the next string as it should be, and whoever is told of signals too."""
-        session, (told, tells), raises, raised = Session(depth=1), os.pipe(), [], 0
+        session, (told, tells), handle = Session(depth=1), os.pipe(), Raising()
         os.set_blocking(tells, False)
         signal.set_wakeup_fd(tells)
-
-        def handle(*_):
-            if raises:
-                raises.clear()
-                raise KeyboardInterrupt
-
         signal.signal(signal.SIGINT, handle)
-        for _ in range(1000):
-            try:
-                raises.append(True)
-                threading.Timer(0.0001, interrupt).start()
-                while raises:
-                    session.run(b"J")
-            except KeyboardInterrupt:
-                raised += 1
+        for _ in range(300):
+            handle.tries(lambda: session.run(b"J"), 0.0001)
             self.assertEqual(session.run(b"9="), Ran(None, b"9\r\n", 2))
-        self.assertEqual((signal.set_wakeup_fd(-1), raised), (tells, 1000))
+        self.assertEqual((signal.set_wakeup_fd(-1), handle.raised > 30), (tells, True))
         os.close(told)
         os.close(tells)
 
@@ -194,7 +182,7 @@ class TestInterrupt(unittest.TestCase):
         session, text = Session(), bytes(range(256)) * 20000
         later(interrupt)
         try:
-            for _ in range(1000):
+            for _ in range(300):
                 session.insert(text)
                 session.undo()
             self.fail("no interrupt came")
