@@ -8,10 +8,11 @@ import signal
 import sys
 import threading
 import time
+import weakref
 from contextlib import contextmanager, suppress
 from fcntl import ioctl
 from termios import FIONREAD
-from typing import Iterator, List, Optional, Tuple
+from typing import Callable, Iterator, List, Optional, Tuple
 
 from ._stopper import Flag
 
@@ -31,6 +32,15 @@ class Reader:
         self.number, self.ended = 0, threading.Event()
 
 
+class Running:
+    """A run that is under way, with its flag. Nobody but the run has it, so it goes with the run, also where a handler raises."""
+    __slots__ = ("flag", "__weakref__")
+
+
+def nobody() -> None:
+    """Stands for a run that has ended."""
+
+
 class Listener:
     """Breaks off the string that runs on the main thread when Ctrl-C comes.
 
@@ -46,26 +56,27 @@ class Listener:
         os.set_blocking(self.reads, False)
         os.set_blocking(self.writes, False)
         self.ours = (self.writes,)
-        self.flag: Optional[Flag] = None  # of the string that runs
+        self.current: Callable[[], Optional[Running]] = nobody  # the run that is under way, if it is
         self.others: List[int] = []  # who was told of signals before; within a handler the last one is `writes`
         self.thread: Optional[Reader] = None
         self.has_run = False
 
     def run(self, flag: Flag, call, *arguments) -> int:  # type: ignore[no-untyped-def]
         """The answer of a call that Ctrl-C breaks off by this flag."""
-        before = self.flag
+        running, before = Running(), self.current
+        running.flag = flag
         try:
             with self.lock:
-                self.flag, self.has_run = flag, True
+                self.current, self.has_run = weakref.ref(running), True
                 # one call, so no handler comes between what it gives and the list
                 self.others.extend(map(signal.set_wakeup_fd, self.ours))
-                if before is None and len(self.others) > 1:
+                if len(self.others) > 1 and before() is None:
                     self.put_right()
                 if self.thread is None:
                     self.begin()
             return call(*arguments)
         finally:
-            self.flag = before  # the first, before a handler can raise
+            self.current = before
             with self.lock:
                 for last in self.others[-1:]:
                     try:
@@ -73,12 +84,12 @@ class Listener:
                     except (OSError, ValueError):
                         signal.set_wakeup_fd(-1)  # it has gone
                 if ioctl(self.reads, FIONREAD, EMPTY) != EMPTY:
-                    self.hear(None)  # what has come is not left for the next string
+                    self.hear(nobody)  # what has come is not left for the next string
                 del self.others[-1:]
 
     def put_right(self) -> None:
         """Forgets what a handler that raised has left of an earlier string, and the signals since then."""
-        self.hear(None)
+        self.hear(nobody)
         self.others = self.others[:1] if self.others[-1] == self.writes else self.others[-1:]
 
     def begin(self) -> None:
@@ -88,15 +99,29 @@ class Listener:
             _thread.start_new_thread(self.listen, (thread,))
             self.thread = thread
 
-    def hear(self, flag: Optional[Flag]) -> None:
-        """Reads the signals that came, and passes them on. Ctrl-C asks the flag."""
+    def hear(self, current: Callable[[], Optional[Running]]) -> None:
+        """Reads the signals that came, and passes them on. Ctrl-C breaks off the run, if there is one."""
         with suppress(BlockingIOError):
             signals = os.read(self.reads, 4096)
-            if signal.SIGINT in signals and flag is not None:
-                flag.ask()
+            running = current()
+            if signal.SIGINT in signals and running is not None:
+                running.flag.ask()
             for other in self.others[:1]:
                 with suppress(OSError):  # also if there is none, which is -1
                     os.write(other, signals)
+
+    @contextmanager
+    def locked(self) -> Iterator[None]:
+        """While this lasts the main thread changes nothing. That takes a moment: if it takes longer, a handler that raised has left the lock
+        locked, as it can before Python 3.11, and there is a new one."""
+        lock = self.lock
+        if not lock.acquire(timeout=0.1):
+            lock = self.lock = threading.RLock()
+            lock.acquire()
+        try:
+            yield
+        finally:
+            lock.release()
 
     def listen(self, thread: Reader) -> None:
         """What the thread does."""
@@ -106,9 +131,9 @@ class Listener:
         goes_on = True
         while goes_on:
             came = poll.poll(IDLE)
-            with self.lock:
+            with self.locked():
                 if came:
-                    self.hear(self.flag)
+                    self.hear(self.current)
                 if self.thread is thread and not self.others and not self.has_run:
                     self.thread = None
                 goes_on, self.has_run = self.thread is thread, False
@@ -116,7 +141,7 @@ class Listener:
 
     def dismiss(self) -> None:
         """Ends the thread, unless a string runs."""
-        with self.lock:
+        with self.locked():
             thread = self.thread
             if thread is None or self.others:
                 return
@@ -172,15 +197,9 @@ def holding() -> Iterator[None]:
 
 
 def _before_fork() -> None:
-    """A process is forked without a thread of ours, if it can be, and while no listener is changed."""
+    """A process is forked without a thread of ours, if it can be."""
     if _listener is not None:
         _listener.dismiss()
-        _listener.lock.acquire()
-
-
-def _after_fork() -> None:
-    if _listener is not None:
-        _listener.lock.release()
 
 
 def _in_child() -> None:
@@ -201,5 +220,5 @@ def _at_exit() -> None:
         _listener.dismiss()
 
 
-os.register_at_fork(before=_before_fork, after_in_parent=_after_fork, after_in_child=_in_child)
+os.register_at_fork(before=_before_fork, after_in_child=_in_child)
 atexit.register(_at_exit)

@@ -170,6 +170,8 @@ class TestInterrupt(unittest.TestCase):
         for _ in range(300):
             handle.tries(lambda: session.run(b"J"), 0.0001)
             self.assertEqual(session.run(b"9="), Ran(None, b"9\r\n", 2))
+        later(interrupt)
+        self.assertTrue(session.run(**ENDLESS).stopped)
         self.assertEqual((signal.set_wakeup_fd(-1), handle.raised > 30), (tells, True))
         os.close(told)
         os.close(tells)
