@@ -8,7 +8,7 @@ use Rattle.teco_session.specs.Answers.{outcome_of}
 use Rattle.teco_session.specs.History.{present}
 use Rattle.teco_session.specs.Kept.{history_of}
 use Rattle.teco_session.specs.declared.request.Answer.{Answer}
-use Rattle.teco_debugger.specs.Walk.{KeptWalk, base}
+use Rattle.teco_debugger.specs.Walk.{KeptWalk, base, led}
 use Rattle.teco_debugger.proofs.walk.Walk.follow.Goals as goal
 
 pub returns-clause-found : goal.returns-clause-found
@@ -16,7 +16,8 @@ returns-clause-found g c =
     let w = c.args.self.now in
     let wanted = g.P.Wants.wanted c.args.places in
     let there = present (history_of c.in_ok-session.session) in
-    let first : there ≡ base w = ap present c.in_ok-session.ensures in
+    let led_there : history_of c.in_ok-session.session ≡ led w.first w.before = c.in_ok-session.ensures in
+    let first : there ≡ base w = ap present led_there in
     let steps = c.in-Ended.outcome.steps in
     let text : c.as_slice.result.now ≡ w.text = c.as_slice.ensures.value ∙ ap (λ (v : KeptWalk). v.text) c.self.view_is in
     let followed = c.run_with-answer.ensures.visits wanted c.args.from (c.new-watch.ensures there c.as_slice.result.now) in
