@@ -1,4 +1,5 @@
 //! The call that reads a token of a text.
+ghost use Rattle.teco_core.specs.declared.profile.Profile.TheVariants.{Named};
 ghost use Rattle.std.specs.Prelude.{◌≡◌, ◌≤◌, drop, length};
 ghost use Rattle.teco_scan.specs.Scan.{after_fillers, scan};
 ghost use Rattle.teco_ffi.specs.Tokens.{after_token, last_text, token_answer, token_kind};
@@ -11,11 +12,11 @@ use teco_ffi::tokens::{ToldToken, tell_token};
 /// 0, or a number of its own where no token is left, or the number of the code by which none is read: UTC, ILL, IQN or IQC.
 #[unsafe(no_mangle)]
 pub extern "C" fn teco_token(text: &[u8], at: usize, told: &mut ToldToken) -> u8
-    ensures answer { result ≡ token_answer (scan (drop at text.now)) }
+    ensures answer { result ≡ token_answer (scan Named (drop at text.now)) }
     ensures from { drop told.new.from text.now ≡ after_fillers (drop at text.now) }
-    ensures to { drop told.new.to text.now ≡ after_token (scan (drop at text.now)) }
-    ensures kind { told.new.kind ≡ token_kind (scan (drop at text.now)) }
-    ensures size { told.new.size ≡ length (last_text (scan (drop at text.now))) }
+    ensures to { drop told.new.to text.now ≡ after_token (scan Named (drop at text.now)) }
+    ensures kind { told.new.kind ≡ token_kind (scan Named (drop at text.now)) }
+    ensures size { told.new.size ≡ length (last_text (scan Named (drop at text.now))) }
     ensures within { (told.new.from ≤ told.new.to) × (told.new.to ≤ length text.now) }
 {
     tell_token(text, at, told)

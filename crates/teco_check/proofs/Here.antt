@@ -1,5 +1,6 @@
 -- What is wrong at a place.
 use Rattle.std.proofs.Common.{◌≡◌, ℕ, true, List, drop, Some, Result, Ok, Err, IfErr, refl, ap, ◌∙◌}
+use Rattle.teco_core.specs.declared.profile.Profile.TheVariants.{Named}
 use Rattle.teco_scan.specs.declared.command.BlockMark.{BlockMark}
 use Rattle.teco_scan.specs.declared.command.BlockMark.TheVariants.{Iterate, EndIteration, Otherwise, EndTest}
 use Rattle.teco_scan.specs.Scan.{Instruction, TokenMeaning, found, scan, scan_here, after_fillers}
@@ -10,7 +11,7 @@ use Rattle.teco_check.specs.declared.faults.Wrong.{Wrong}
 use Rattle.teco_check.specs.declared.faults.Wrong.TheVariants as wrongs
 use Rattle.teco_check.specs.Checked.{is_stray, suits, IsFaultHere}
 
-here : (bs : List ℕ) (t : TokenMeaning) (rest : List ℕ) → scan bs ≡ found t rest → (w : Wrong) → suits w t.instruction ≡ true → IsFaultHere bs w
+here : (bs : List ℕ) (t : TokenMeaning) (rest : List ℕ) → scan Named bs ≡ found t rest → (w : Wrong) → suits w t.instruction ≡ true → IsFaultHere bs w
 here bs t rest e (wrongs.Unreadable c) s = absurd cc
 here bs t rest e (wrongs.Stray c opening) s = (t, (rest, (e, s)))
 here bs t rest e wrongs.Unended s = (t, (rest, (e, s)))
@@ -20,10 +21,10 @@ here bs t rest e wrongs.Calls s = (t, (rest, (e, s)))
 here bs t rest e wrongs.Loads s = (t, (rest, (e, s)))
 here bs t rest e wrongs.InText s = (t, (rest, (e, s)))
 
-pub fault_here : {X : Type 0} → (text : List ℕ) (from : ℕ) (t : TokenMeaning) (rest : List ℕ) (r : Result X Fault) → scan (drop from text) ≡ found t rest
+pub fault_here : {X : Type 0} → (text : List ℕ) (from : ℕ) (t : TokenMeaning) (rest : List ℕ) (r : Result X Fault) → scan Named (drop from text) ≡ found t rest
     → IfErr r (λ f. (f.at ≡ from) × (suits f.wrong t.instruction ≡ true)) → IfErr r (λ f. IsFaultHere (drop f.at text) f.wrong)
 fault_here text from t rest (Ok x) e h = tt
-fault_here text from t rest (Err f) e h = here (drop f.at text) t rest (ap (λ (n : ℕ). scan (drop n text)) h.0 ∙ e) f.wrong h.1
+fault_here text from t rest (Err f) e h = here (drop f.at text) t rest (ap (λ (n : ℕ). scan Named (drop n text)) h.0 ∙ e) f.wrong h.1
 
 stray_suits : (w : Wrong) (i : Instruction) (b : BlockMark) → is_stray w ≡ true → Some b ≡ closing_mark i → suits w i ≡ true
 stray_suits (wrongs.Stray c opening) (token.mark EndIteration) b s e = refl
@@ -42,7 +43,7 @@ stray_suits wrongs.Calls i b s e = absurd cc
 stray_suits wrongs.Loads i b s e = absurd cc
 stray_suits wrongs.InText i b s e = absurd cc
 
-pub stray_here : {X : Type 0} → (text : List ℕ) (from : ℕ) (t : TokenMeaning) (rest : List ℕ) (b : BlockMark) (r : Result X Fault) → scan (drop from text) ≡ found t rest → Some b ≡ closing_mark t.instruction
+pub stray_here : {X : Type 0} → (text : List ℕ) (from : ℕ) (t : TokenMeaning) (rest : List ℕ) (b : BlockMark) (r : Result X Fault) → scan Named (drop from text) ≡ found t rest → Some b ≡ closing_mark t.instruction
     → IfErr r (λ f. (f.at ≡ from) × (is_stray f.wrong ≡ true)) → IfErr r (λ f. IsFaultHere (drop f.at text) f.wrong)
 stray_here {X = X} text from t rest b (Ok x) e is h = tt
 stray_here {X = X} text from t rest b (Err f) e is h = fault_here {X = X} text from t rest (Err f) e (h.0, stray_suits f.wrong t.instruction b h.1 is)

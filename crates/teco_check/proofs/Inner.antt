@@ -2,6 +2,7 @@
 use Rattle.std.proofs.Common.{◌≡◌, ℕ, zero, suc, Bool, true, false, Some, None, ◌+◌, ◌-◌, ◌<◌, ◌≤◌, List, [], ◌∷◌, ◌++◌, length, length-append, length-drop, drop, Result, Ok, Err, refl, sym, ap, subst, ◌∙◌, eqb, arith}
 use Rattle.std.proofs.lemmas.List.{length-take-le}
 use Rattle.teco_core.specs.declared.code.Code.{Code}
+use Rattle.teco_core.specs.declared.profile.Profile.TheVariants.{Named}
 use Rattle.teco_scan.specs.declared.command.Form.{Form}
 use Rattle.teco_scan.specs.declared.command.Modifiers.{Modifiers}
 use Rattle.teco_scan.specs.declared.command.Row.{Row}
@@ -54,15 +55,15 @@ read_ok (Ok (u, more)) t rest e =
     rw (same, left) refl
 read_ok (Err c) t rest e = absurd cc
 
-here_ok : (bs : List ℕ) (t : TokenMeaning) (rest : List ℕ) → scan_here bs ≡ found t rest → token_from ROWS bs ≡ Ok (t, rest)
+here_ok : (bs : List ℕ) (t : TokenMeaning) (rest : List ℕ) → scan_here Named bs ≡ found t rest → token_from ROWS bs ≡ Ok (t, rest)
 here_ok [] t rest e = absurd cc
 here_ok (b ∷ bs) t rest e = read_ok (token_from ROWS (b ∷ bs)) t rest e
 
-scan_long : (spelled : (rows : List Row) → IsSpelled rows) (bs rest : List ℕ) (t : TokenMeaning) (q : ℕ) (x : List ℕ) → after_fillers bs ≡ bs → scan bs ≡ found t rest → t.instruction ≡ step (set_text q x)
+scan_long : (spelled : (rows : List Row) → IsSpelled rows) (bs rest : List ℕ) (t : TokenMeaning) (q : ℕ) (x : List ℕ) → after_fillers bs ≡ bs → scan Named bs ≡ found t rest → t.instruction ≡ step (set_text q x)
     → length x + 2 + length rest ≤ length bs
 unfolding scan
 scan_long spelled bs rest t q x none e is =
-    let r : (front : List ℕ) × Spells ROWS t front × (bs ≡ front ++ rest) = spelled ROWS bs rest t (here_ok bs t rest (ap scan_here (sym none) ∙ e)) in
+    let r : (front : List ℕ) × Spells ROWS t front × (bs ≡ front ++ rest) = spelled ROWS bs rest t (here_ok bs t rest (ap (scan_here Named) (sym none) ∙ e)) in
     let h : length x + 2 ≤ length r.0 = spells_long ROWS t r.0 q x r.1 is in
     omega (arith, h, ap length r.2, length-append r.0 rest)
 
@@ -71,7 +72,7 @@ length_taken bs s h =
     let inside : s.to - s.from ≤ length (drop s.from bs) = omega (arith, h.ordered, h.inside, length-drop s.from bs) in
     length-take-le (s.to - s.from) (drop s.from bs) inside
 
-pub token_long : (spelled : (rows : List Row) → IsSpelled rows) (bs : List ℕ) (next : ℕ) (t : Token) → IsTokenAt bs next t → scan (drop t.span.from bs) ≡ found (meaning_in bs t) (drop t.span.to bs)
+pub token_long : (spelled : (rows : List Row) → IsSpelled rows) (bs : List ℕ) (next : ℕ) (t : Token) → IsTokenAt bs next t → scan Named (drop t.span.from bs) ≡ found (meaning_in bs t) (drop t.span.to bs)
     → t.span.from + inner_length t.kind < t.span.to
 token_long spelled bs next t at e = of_kind t.kind refl
   where

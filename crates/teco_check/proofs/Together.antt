@@ -2,6 +2,7 @@
 use Rattle.std.proofs.Common.{◌≡◌, ◌≢◌, ◌⊎◌, ℕ, zero, suc, ◌<◌, ◌≤◌, Bool, true, false, List, [], ◌∷◌, length, Option, Some, None, IfSome, IsSomeAnd, cond as choose, refl, sym, ap, ◌∙◌, subst, inl, inr, arith}
 use Rattle.std.specs.Prelude.{◌==◌}
 use Rattle.teco_core.specs.Ascii.{is_filler}
+use Rattle.teco_core.specs.declared.profile.Profile.TheVariants.{Named}
 use Rattle.teco_scan.specs.declared.breaks.ListFault.{ListFault}
 use Rattle.teco_scan.specs.declared.command.BlockMark.{BlockMark}
 use Rattle.teco_scan.specs.declared.command.BlockMark.TheVariants.{Iterate, EndIteration, Otherwise, EndTest}
@@ -86,8 +87,8 @@ fillers_short [] = omega arith
 fillers_short (b ∷ bs) = elim (is_filler b) as (λ v. length (choose v (after_fillers bs) (b ∷ bs)) ≤ length (b ∷ bs)) [ true ↦ omega (arith, fillers_short bs) | false ↦ omega arith ]
 
 -- what a token leaves is shorter than what it begins
-token_short : (bs : List ℕ) (t : TokenMeaning) (more : List ℕ) → scan bs ≡ found t more → length more < length (after_fillers bs)
-token_short bs t more e = scan_short (after_fillers bs) t more (scan_same bs (after_fillers bs) refl ∙ e)
+token_short : (bs : List ℕ) (t : TokenMeaning) (more : List ℕ) → scan Named bs ≡ found t more → length more < length (after_fillers bs)
+token_short bs t more e = scan_short Named (after_fillers bs) t more (scan_same bs (after_fillers bs) refl ∙ e)
 
 -- what is wrong with an item has no code by which a run ends
 wrong_uncoded : (code : CodeRule) (bytes : List ℕ) (lists : List OpenList) (m : Modifiers) (i : Item) → IfSome (wrong_with code bytes lists m i) (λ w. code_of w ≡ None)
@@ -123,7 +124,7 @@ wrong_uncoded code bytes lists m (token.set_text q t) = of_hold (code.holds q)
 
 module _ (text : List ℕ) where
   abbrev spelled : Walker ListFault
-  spelled o os bs = walk by_spelling text o os bs
+  spelled o os bs = walk Named by_spelling text o os bs
 
   -- A fault, if there is one, is not before this place.
   abbrev From : ℕ → Option ListFault → Option ListFault → Type 0
@@ -149,10 +150,10 @@ module _ (text : List ℕ) where
         let low = place text bs in
         let at = place text (after_fillers bs) in
         let above : low ≤ at = omega (arith, fillers_short bs) in
-        let onward : (a : OpenList) (around : List OpenList) (t : TokenMeaning) (more : List ℕ) → scan bs ≡ found t more → From low (spelled a around more) None
-        = λ a around t more e. sooner low (place text more) (spelled a around more) (omega (arith, scan_short bs t more e)) ((from_place n).from a around more (omega (arith, lt, scan_short bs t more e))) in
-        subst (λ x. From low x None) (sym (unrolls ListFault by_spelling text bs o os))
-        (scans ListFault ListFault by_spelling by_spelling spelled spelled text (From low) (scan bs) at o os
+        let onward : (a : OpenList) (around : List OpenList) (t : TokenMeaning) (more : List ℕ) → scan Named bs ≡ found t more → From low (spelled a around more) None
+        = λ a around t more e. sooner low (place text more) (spelled a around more) (omega (arith, scan_short Named bs t more e)) ((from_place n).from a around more (omega (arith, lt, scan_short Named bs t more e))) in
+        subst (λ x. From low x None) (sym (unrolls Named ListFault by_spelling text bs o os))
+        (scans ListFault ListFault by_spelling by_spelling spelled spelled text (From low) (scan Named bs) at o os
         (record { breaks = λ b a. break_from low at b a above; none = tt })
         (λ t more e. record { on = λ a around. onward a around t more e })
         (λ t more e x. onward o os t more e));
@@ -168,31 +169,31 @@ module _ (text : List ℕ) where
   later at next (Some there) h from = omega (arith, h, from)
 
   item_beside : (code : CodeRule) (at : ℕ) (w : Option Wrong) (o : OpenList) (os : List OpenList) (more : List ℕ) → IfSome w (λ x. code_of x ≡ None) → at < place text more
-      → Beside (spelled o os more) (walk (by_check code text) text o os more) → Beside (spelled o os more) (after_item (walk (by_check code text) text) (told_item at w) o os more)
+      → Beside (spelled o os more) (walk Named (by_check code text) text o os more) → Beside (spelled o os more) (after_item (walk Named (by_check code text) text) (told_item at w) o os more)
   item_beside code at None o os more uncoded h beside = beside
   item_beside code at (Some w) o os more uncoded h beside =
       inr (uncoded, later at (place text more) (spelled o os more) h ((from_place (suc (length more))).from o os more (omega arith)))
 
   record AllBeside (code : CodeRule) (n : ℕ) : Type 0 where
-    beside : (o : OpenList) (os : List OpenList) (bs : List ℕ) → length bs < n → length bs ≤ length text → Beside (spelled o os bs) (walk (by_check code text) text o os bs)
+    beside : (o : OpenList) (os : List OpenList) (bs : List ℕ) → length bs < n → length bs ≤ length text → Beside (spelled o os bs) (walk Named (by_check code text) text o os bs)
 
   beside_all : (code : CodeRule) (n : ℕ) → AllBeside code n
   beside_all code zero = record { beside = λ o os bs lt inside. absurd (omega (arith, lt)) }
   beside_all code (suc n) = record {
     beside = λ o os bs lt inside.
         let at = place text (after_fillers bs) in
-        let onward : (a : OpenList) (around : List OpenList) (t : TokenMeaning) (more : List ℕ) → scan bs ≡ found t more → Beside (spelled a around more) (walk (by_check code text) text a around more)
-        = λ a around t more e. (beside_all code n).beside a around more (omega (arith, lt, scan_short bs t more e)) (omega (arith, inside, scan_short bs t more e)) in
-        subst (λ x. Beside x (walk (by_check code text) text o os bs)) (sym (unrolls ListFault by_spelling text bs o os))
-        (subst (λ y. Beside (at_scan by_spelling spelled text (scan bs) at o os) y) (sym (unrolls Fault (by_check code text) text bs o os))
-        (scans ListFault Fault by_spelling (by_check code text) spelled (walk (by_check code text) text) text Beside (scan bs) at o os
+        let onward : (a : OpenList) (around : List OpenList) (t : TokenMeaning) (more : List ℕ) → scan Named bs ≡ found t more → Beside (spelled a around more) (walk Named (by_check code text) text a around more)
+        = λ a around t more e. (beside_all code n).beside a around more (omega (arith, lt, scan_short Named bs t more e)) (omega (arith, inside, scan_short Named bs t more e)) in
+        subst (λ x. Beside x (walk Named (by_check code text) text o os bs)) (sym (unrolls Named ListFault by_spelling text bs o os))
+        (subst (λ y. Beside (at_scan by_spelling spelled text (scan Named bs) at o os) y) (sym (unrolls Named Fault (by_check code text) text bs o os))
+        (scans ListFault Fault by_spelling (by_check code text) spelled (walk Named (by_check code text) text) text Beside (scan Named bs) at o os
         (record { breaks = λ b a. inl (record { at = at; broken = b; list = a; by_run = refl; by_check = refl }); none = refl })
         (λ t more e. record { on = λ a around. onward a around t more e })
         (λ t more e x. item_beside code at (wrong_with code text (o ∷ os) (marks_at text at) x) o os more (wrong_uncoded code text (o ∷ os) (marks_at text at) x)
         (omega (arith, inside, fillers_short bs, token_short bs t more e)) (onward o os t more e))));
   }
 
-pub text_beside : (n : ℕ) (code : List Bool) (text : List ℕ) → Beside text (first_break text) (first_within n code text)
+pub text_beside : (n : ℕ) (code : List Bool) (text : List ℕ) → Beside text (first_break Named text) (first_within n code text)
 text_beside n code text = (beside_all text (rule n code) (suc (length text))).beside own_list [] text (omega arith) (omega arith)
 
 pub one_code : (run : ListFault) (told : Fault) → IsOneBreak run told → code_of told.wrong ≡ Some run.code

@@ -2,6 +2,7 @@
 use Rattle.std.specs.Prelude.{◌≡◌, ℕ, zero, suc, ◌-◌, Bool, true, false, ◌||◌, ◌<◌, ◌≤◌, List, length, drop, slice_index, slice_index_or, Option, Some, None, Result, Ok, Err, is_some}
 use Rattle.teco_core.specs.declared.code.Code.{Code}
 use Rattle.teco_core.specs.declared.code.Code.TheVariants.{Pdo, Utc}
+use Rattle.teco_core.specs.declared.profile.Profile.TheVariants.{Named}
 use Rattle.teco_scan.specs.declared.blocks.Kind.{Kind}
 use Rattle.teco_scan.specs.Tree.{Nodes}
 use Rattle.teco_scan.specs.Lists.{list_at, tag_at}
@@ -30,7 +31,7 @@ may_hold n code = clean_within n (held code)
 -- place where each begins.
 unfoldable pub lands_below : List ℕ → List ℕ → ℕ → List ℕ → Bool
 lands_below bytes starts zero name = false
-lands_below bytes starts (suc d) name = is_some (tag_at name d (drop (slice_index starts d) bytes)) || lands_below bytes starts d name
+lands_below bytes starts (suc d) name = is_some (tag_at Named name d (drop (slice_index starts d) bytes)) || lands_below bytes starts d name
 
 -- The lists are those that begin at these places, as far as a jump can tell.
 abbrev pub AreOpen : List ℕ → List ℕ → ℕ → List Nodes → Type 0
@@ -38,7 +39,7 @@ AreOpen bytes starts d lists = (name : List ℕ) → lands lists name ≡ lands_
 
 -- whether the rest of a list is clean, where a node of it was passed up to a place; a fault in the node makes it unclean
 abbrev pub rest_clean : (ℕ → Bool) → (List ℕ → Bool) → List Nodes → List ℕ → Option Kind → ℕ → Result ℕ Fault → Bool
-rest_clean code may lists bytes k d (Ok to) = is_clean code may lists (list_at k d (drop to bytes)).0
+rest_clean code may lists bytes k d (Ok to) = is_clean code may lists (list_at Named k d (drop to bytes)).0
 rest_clean code may lists bytes k d (Err f) = false
 
 -- The places of so many lists lie in the text.
@@ -68,8 +69,8 @@ suits w i = false
 
 -- The bytes begin with what is wrong: with no token, or with one that can have this wrong with it.
 abbrev pub IsFaultHere : List ℕ → Wrong → Type 0
-IsFaultHere bs (wrongs.Unreadable c) = scan bs ≡ fault c
-IsFaultHere bs w = (t : TokenMeaning) × ((rest : List ℕ) × ((scan bs ≡ found t rest) × (suits w t.instruction ≡ true)))
+IsFaultHere bs (wrongs.Unreadable c) = scan Named bs ≡ fault c
+IsFaultHere bs w = (t : TokenMeaning) × ((rest : List ℕ) × ((scan Named bs ≡ found t rest) × (suits w t.instruction ≡ true)))
 
 -- the code by which a run ends where it comes to this
 abbrev pub code_of : Wrong → Option Code

@@ -1,6 +1,7 @@
 -- What the answer of a check of a node or a list says: how clean it is, where the walk goes on, and how the list closes or breaks.
 use Rattle.std.specs.Prelude.{◌≡◌, ℕ, suc, ◌+◌, Bool, List, ◌∷◌, length, drop, Option, Some, Result, IfOk, IfErr, is_ok}
 use Rattle.teco_core.specs.declared.code.Code.{Code}
+use Rattle.teco_core.specs.declared.profile.Profile.TheVariants.{Named}
 use Rattle.teco_scan.specs.declared.blocks.Kind.{Kind}
 use Rattle.teco_scan.specs.declared.blocks.Kind.TheVariants.{Then}
 use Rattle.teco_scan.specs.declared.blocks.SkipEnd.{SkipEnd}
@@ -26,11 +27,11 @@ RestOfList = Option Kind → Listed
 
 abbrev pub from_token : List ℕ → Token → Modifiers → ℕ → RestOfList
 from_token text token modifiers depth kind =
-    lists.at_instruction list_at (instruction_in text token.kind) modifiers (drop token.span.to text) kind depth
+    lists.at_instruction (list_at Named) (instruction_in text token.kind) modifiers (drop token.span.to text) kind depth
 
 abbrev pub from_conditional : List ℕ → ℕ → Test → ℕ → RestOfList
 from_conditional text start test depth kind =
-    cond_at list_at kind depth test (list_at (Some Then) (suc depth) (drop start text))
+    cond_at (list_at Named) kind depth test (list_at Named (Some Then) (suc depth) (drop start text))
 
 -- the walk from a token on, and from the first part of a conditional on, in a list with those around it
 abbrev pub WalkFrom : Type 0
@@ -54,7 +55,7 @@ NodeClean code text starts depth rest answer = (open_lists : List Nodes) (kind :
 
 abbrev pub NodeCloses : List ℕ → ℕ → RestOfList → Result ℕ Fault → Type 0
 NodeCloses text depth rest answer = (kind : Option Kind)
-    → IfOk answer (λ to. (rest kind).1 ≡ (list_at kind depth (drop to text)).1)
+    → IfOk answer (λ to. (rest kind).1 ≡ (list_at Named kind depth (drop to text)).1)
 
 -- The walk goes on after the node, or its fault is that of the answer.
 abbrev pub NodeFirst : CodeRule → List ℕ → List ℕ → ℕ → WalkFrom → Result ℕ Fault → Type 0

@@ -1,5 +1,6 @@
 -- The first fault that a check tells: of a walk over the tokens of a text, by the rule of a check.
 use Rattle.std.specs.Prelude.{ℕ, Bool, false, ◌||◌, List, [], ◌∷◌, length, drop, Option, Some, None, is_some, if◌then◌else◌}
+use Rattle.teco_core.specs.declared.profile.Profile.TheVariants.{Named}
 use Rattle.teco_scan.specs.declared.command.Modifiers.{Modifiers}
 use Rattle.teco_scan.specs.declared.command.TextCommand.TheVariants as texts
 use Rattle.teco_scan.specs.declared.command.RegisterCommand.TheVariants as registers
@@ -19,7 +20,7 @@ use Rattle.teco_check.specs.declared.faults.Wrong.TheVariants as wrongs
 -- A tag of this name is directly in one of these lists, the innermost first.
 unfoldable pub lands_in : List ℕ → List OpenList → List ℕ → Bool
 lands_in bytes [] name = false
-lands_in bytes (o ∷ os) name = is_some (tag_at name (length os) (drop o.start bytes)) || lands_in bytes os name
+lands_in bytes (o ∷ os) name = is_some (tag_at Named name (length os) (drop o.start bytes)) || lands_in bytes os name
 
 -- which registers hold code, and which texts may be put there
 pub record CodeRule : Type 0 where
@@ -60,7 +61,7 @@ marks_of (found t rest) = t.modifiers
 marks_of s = no_modifiers
 
 abbrev pub marks_at : List ℕ → ℕ → Modifiers
-marks_at bytes at = marks_of (scan (drop at bytes))
+marks_at bytes at = marks_of (scan Named (drop at bytes))
 
 -- the rule of a check
 abbrev pub by_check : CodeRule → List ℕ → Rule Fault
@@ -68,7 +69,7 @@ by_check code bytes =
     record { breaks = told_break; item = λ at item lists. told_item at (wrong_with code bytes lists (marks_at bytes at) item) }
 
 abbrev pub check_walk : CodeRule → List ℕ → Walker Fault
-check_walk code bytes list around rest = walked.walk (by_check code bytes) bytes list around rest
+check_walk code bytes list around rest = walked.walk Named (by_check code bytes) bytes list around rest
 
 -- the code registers, where texts are looked into so many deep
 abbrev pub rule : ℕ → List Bool → CodeRule

@@ -1,4 +1,5 @@
 //! Where a list ends.
+ghost use Rattle.teco_core.specs.declared.profile.Profile.TheVariants.{Named};
 ghost use Rattle.std.specs.Prelude.{◌≡◌, ◌≢◌, ◌≤◌, ℕ, true, false, Bool, List, length, drop, IfOk, IfErr, Option, Some, None, Ok, is_ok};
 ghost use Rattle.teco_core.specs.declared.code.Code.{Code};
 ghost use Rattle.teco_scan.specs.Scan.{ended};
@@ -37,16 +38,16 @@ pub fn end_of_list(
 ) -> Result<SkipEnd, Fault>
     requires { mark ≢ BlockMark.Iterate }
     ensures clean { (text : List ℕ) (d : ℕ) (code : ℕ → Bool) (may : List ℕ → Bool) (lists : List Nodes)
-        → is_clean code may lists (at_mark list_at mark (drop to text) kind d).0 ≡ is_ok result }
+        → is_clean code may lists (at_mark (list_at Named) mark (drop to text) kind d).0 ≡ is_ok result }
     ensures closes { (text : List ℕ) (d : ℕ)
-        → IfOk result (λ stop. (at_mark list_at mark (drop to text) kind d).1 ≡ close_of text (Ok stop)) }
+        → IfOk result (λ stop. (at_mark (list_at Named) mark (drop to text) kind d).1 ≡ close_of text (Ok stop)) }
     ensures first { (code : CodeRule) (text : List ℕ) (start : ℕ) (os : List OpenList) → to ≤ length text
         → walked.at_mark (by_check code text) (check_walk code text) text mark kind from (record { kind = kind; opening = opening; start = start }) os (drop to text)
         ≡ after_list code text kind opening os result }
     ensures place { IfOk result (λ stop. stop.to ≡ to) }
     ensures stray { IfErr result (λ fault. (fault.at ≡ from) × (is_stray fault.wrong ≡ true)) }
     ensures breaks { (text : List ℕ) (d : ℕ) (code : Code)
-        → IfErr result (λ fault. code_of fault.wrong ≡ Some code → (at_mark list_at mark (drop to text) kind d).1 ≡ broken code) }
+        → IfErr result (λ fault. code_of fault.wrong ≡ Some code → (at_mark (list_at Named) mark (drop to text) kind d).1 ≡ broken code) }
 {
     let innermost = opened_at(kind, opening);
     let whole = SkipEnd { to, divided: false };
@@ -70,7 +71,7 @@ pub fn end_of_list(
 #[tactic(auto, unfolding(crate::specs::Clean::is_clean))]
 pub fn end_of_text(kind: Option<Kind>, opening: usize, to: usize) -> Result<SkipEnd, Fault>
     ensures clean { (d : ℕ) (code : ℕ → Bool) (may : List ℕ → Bool) (lists : List Nodes)
-        → is_clean code may lists (at_scan list_at ended kind d).0 ≡ is_ok result }
+        → is_clean code may lists (at_scan (list_at Named) ended kind d).0 ≡ is_ok result }
     ensures first { (code : CodeRule) (text : List ℕ) (at start : ℕ) (os : List OpenList)
         → at_end (by_check code text) kind at (record { kind = kind; opening = opening; start = start })
         ≡ after_list code text kind opening os result }
@@ -79,7 +80,7 @@ pub fn end_of_text(kind: Option<Kind>, opening: usize, to: usize) -> Result<Skip
     ensures unended { IfErr result (λ fault. (fault.at ≡ opening) × (fault.wrong ≡ Wrong.Unended)) }
     ensures inside { is_ok result ≡ false → kind ≢ None }
     ensures breaks { (d : ℕ) (code : Code)
-        → IfErr result (λ fault. code_of fault.wrong ≡ Some code → (at_scan list_at ended kind d).1 ≡ broken code) }
+        → IfErr result (λ fault. code_of fault.wrong ≡ Some code → (at_scan (list_at Named) ended kind d).1 ≡ broken code) }
 {
     match kind {
         None => Ok(SkipEnd { to, divided: false }),

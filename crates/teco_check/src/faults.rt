@@ -1,4 +1,5 @@
 //! The first fault of a text.
+ghost use Rattle.teco_core.specs.declared.profile.Profile.TheVariants.{Named};
 ghost use Rattle.std.specs.Prelude.{slice_index, ◌≡◌, ◌≢◌, ◌+◌, ◌-◌, ◌<◌, ◌≤◌, ℕ, suc, true, false, Bool, List, [], ◌∷◌, length, drop, IfOk, IfErr, IfSome, Option, Some, None, is_ok, is_some, is_none};
 ghost use Rattle.teco_core.specs.declared.code.Code.{Code};
 ghost use Rattle.teco_core.specs.declared.limits.TheConstants.{BLOCK_LIMIT};
@@ -22,7 +23,7 @@ ghost use Rattle.teco_check.specs.Checked.{item_holds, item_length, inner_length
 use crate::ends::{end_of_list, end_of_text};
 use crate::jumps::{LISTS, gathered, lands_below};
 use std::alloc::Global;
-use teco_core::{BLOCK_LIMIT, Code, Reg};
+use teco_core::{BLOCK_LIMIT, Code, Profile, Reg};
 use teco_scan::{
     Found, Item, Kind, Modifiers, RegisterCommand, SkipEnd, Span, Tags, TextCommand, Token,
     TokenKind, block_laws, closing_mark, filler_end, spelling, token_at,
@@ -96,7 +97,8 @@ fn wrong_of(
     requires inside { AreInside text.now starts.now count }
     requires item { IsItemIn (length text.now) item }
     requires short { item_length item < length text.now }
-    requires tags { look.tags.now ≡ text.now }
+    requires tags { look.tags.now.bytes.now ≡ text.now }
+    requires named { look.tags.now.profile ≡ Named }
     ensures fine { ItemFine (rule look.entry.texts look.entry.code.now) text.now starts.now count
         modifiers (item_in text.now item) (is_none result) }
     ensures first { (lists : List OpenList) → length lists ≡ count → BeginThere text.now starts.now lists
@@ -159,7 +161,8 @@ fn check_item(
     requires inside { AreInside text.now starts.now count }
     requires item { IsItemIn (length text.now) item }
     requires short { item_length item < length text.now }
-    requires tags { look.tags.now ≡ text.now }
+    requires tags { look.tags.now.bytes.now ≡ text.now }
+    requires named { look.tags.now.profile ≡ Named }
     ensures fine { ItemFine (rule look.entry.texts look.entry.code.now) text.now starts.now count
         modifiers (item_in text.now item) (is_ok result) }
     ensures place { IfOk result (λ x. x ≡ span.to) }
@@ -192,7 +195,8 @@ fn check_conditional(
     requires few { depth < BLOCK_LIMIT }
     requires opened { IsFaultHere (drop opening text.now) Wrong.Unended }
     requires starts { AreInside text.now starts.now (depth + 1) }
-    requires tags { look.tags.now ≡ text.now }
+    requires tags { look.tags.now.bytes.now ≡ text.now }
+    requires named { look.tags.now.profile ≡ Named }
     ensures clean { (test : Test) → NodeClean (rule look.entry.texts look.entry.code.now) text.now starts.now depth
         (from_conditional text.now at test depth) result }
     ensures first { NodeFirst (rule look.entry.texts look.entry.code.now) text.now starts.now depth
@@ -232,9 +236,10 @@ fn check_node(
     requires kind { IsKindIn (length text.now) token.kind }
     requires few { depth ≤ BLOCK_LIMIT }
     requires starts { AreInside text.now starts.now (depth + 1) }
-    requires token { scan (drop token.span.from text.now) ≡ found (meaning_in text.now token) (drop token.span.to text.now) }
+    requires token { scan Named (drop token.span.from text.now) ≡ found (meaning_in text.now token) (drop token.span.to text.now) }
     requires node { closing_mark (instruction_in text.now token.kind) ≡ None }
-    requires tags { look.tags.now ≡ text.now }
+    requires tags { look.tags.now.bytes.now ≡ text.now }
+    requires named { look.tags.now.profile ≡ Named }
     ensures clean { NodeClean (rule look.entry.texts look.entry.code.now) text.now starts.now depth
         (from_token text.now token token.modifiers depth) result }
     ensures first { NodeFirst (rule look.entry.texts look.entry.code.now) text.now starts.now depth
@@ -289,16 +294,17 @@ fn check_list(
     requires few { depth ≤ BLOCK_LIMIT }
     requires opened { kind ≢ None → IsFaultHere (drop opening text.now) Wrong.Unended }
     requires starts { AreInside text.now around.now depth }
-    requires tags { look.tags.now ≡ text.now }
+    requires tags { look.tags.now.bytes.now ≡ text.now }
+    requires named { look.tags.now.profile ≡ Named }
     ensures clean { ListClean (rule look.entry.texts look.entry.code.now) text.now around.now depth
-        (list_at kind depth (drop at text.now)) result }
+        (list_at Named kind depth (drop at text.now)) result }
     ensures first { ListFirst (rule look.entry.texts look.entry.code.now) text.now around.now depth
         (record { kind = kind; opening = opening; start = at }) result }
     ensures closes { (b : Kind) → kind ≡ Some b
-        → IfOk result (λ stop. (list_at kind depth (drop at text.now)).1 ≡ close_of text.now (Ok stop)) }
+        → IfOk result (λ stop. (list_at Named kind depth (drop at text.now)).1 ≡ close_of text.now (Ok stop)) }
     ensures within { IfOk result (λ stop. (at ≤ stop.to) × (stop.to ≤ length text.now)) }
     ensures place { IfErr result (λ fault. IsFaultHere (drop fault.at text.now) fault.wrong) }
-    ensures breaks { ListBreaks (list_at kind depth (drop at text.now)) result }
+    ensures breaks { ListBreaks (list_at Named kind depth (drop at text.now)) result }
 {
     block_laws();
     spelling();
@@ -306,7 +312,7 @@ fn check_list(
     starts[depth] = at;
     let mut next = at;
     loop {
-        match token_at(text, next) {
+        match token_at(Profile::Named, text, next) {
             Found::End => return end_of_text(kind, opening, next),
             Found::Fault(code) => return Err(Fault {
                 at: filler_end(text, next),
@@ -329,12 +335,13 @@ fn check_list(
 /// The first fault of a text whose tags are given.
 #[cycle(check)]
 fn check_gathered(text: &[u8], look: Look<'_, '_, '_>) -> Option<Fault>
-    requires tags { look.tags.now ≡ text.now }
+    requires tags { look.tags.now.bytes.now ≡ text.now }
+    requires named { look.tags.now.profile ≡ Named }
     ensures first { result ≡ first_within look.entry.texts look.entry.code.now text.now }
     ensures clean { clean_within (suc look.entry.texts) (held look.entry.code.now) text.now ≡ is_none result }
     ensures place { IfSome result (λ fault. IsFaultHere (drop fault.at text.now) fault.wrong) }
     ensures breaks { (code : Code)
-        → IfSome result (λ fault. code_of fault.wrong ≡ Some code → (list_at None 0 text.now).1 ≡ broken code) }
+        → IfSome result (λ fault. code_of fault.wrong ≡ Some code → (list_at Named None 0 text.now).1 ≡ broken code) }
 {
     match check_list(text, look, 0, 0, None, 0, &[0; LISTS]) {
         Ok(_) => None,
@@ -354,7 +361,7 @@ pub(crate) fn check_text(
     ensures clean { clean_within (suc texts) (held code.now) text.now ≡ is_none result }
     ensures place { IfSome result (λ fault. IsFaultHere (drop fault.at text.now) fault.wrong) }
     ensures breaks { (code : Code)
-        → IfSome result (λ fault. code_of fault.wrong ≡ Some code → (list_at None 0 text.now).1 ≡ broken code) }
+        → IfSome result (λ fault. code_of fault.wrong ≡ Some code → (list_at Named None 0 text.now).1 ≡ broken code) }
 {
     let tags = gathered(text, memory);
     let look = Look {

@@ -1,4 +1,5 @@
 //! The calls that give the first fault of a text.
+ghost use Rattle.teco_core.specs.declared.profile.Profile.TheVariants.{Named};
 ghost use Rattle.std.specs.Prelude.{◌≡◌, suc, true, List, drop, IfSome, Some, None, is_none};
 ghost use Rattle.teco_core.specs.declared.code.Code.{Code};
 ghost use Rattle.teco_scan.specs.Lists.{broken, list_at};
@@ -17,7 +18,7 @@ pub fn first_fault_within(text: &[u8], code: &[bool; REGISTERS], texts: usize) -
     ensures clean { is_none result ≡ clean_within (suc texts) (held code.now) text.now }
     ensures place { IfSome result (λ fault. IsFaultHere (drop fault.at text.now) fault.wrong) }
     ensures breaks { (code : Code)
-        → IfSome result (λ fault. code_of fault.wrong ≡ Some code → (list_at None 0 text.now).1 ≡ broken code) }
+        → IfSome result (λ fault. code_of fault.wrong ≡ Some code → (list_at Named None 0 text.now).1 ≡ broken code) }
 {
     check_text(text, code, texts, None)
 }
@@ -34,7 +35,7 @@ pub fn first_fault_by_tags(
     ensures clean { is_none result ≡ clean_within (suc texts) (held code.now) text.now }
     ensures place { IfSome result (λ fault. IsFaultHere (drop fault.at text.now) fault.wrong) }
     ensures breaks { (code : Code)
-        → IfSome result (λ fault. code_of fault.wrong ≡ Some code → (list_at None 0 text.now).1 ≡ broken code) }
+        → IfSome result (λ fault. code_of fault.wrong ≡ Some code → (list_at Named None 0 text.now).1 ≡ broken code) }
 {
     check_text(text, code, texts, Some(alloc))
 }
@@ -48,7 +49,7 @@ pub fn first_fault(text: &[u8], code: &[bool; REGISTERS]) -> Option<Fault>
     ensures clean { is_none result ≡ true → IsClean (held code.now) text.now }
     ensures place { IfSome result (λ fault. IsFaultHere (drop fault.at text.now) fault.wrong) }
     ensures breaks { (code : Code)
-        → IfSome result (λ fault. code_of fault.wrong ≡ Some code → (list_at None 0 text.now).1 ≡ broken code) }
+        → IfSome result (λ fault. code_of fault.wrong ≡ Some code → (list_at Named None 0 text.now).1 ≡ broken code) }
 {
     first_fault_within(text, code, MOST_TEXTS)
 }

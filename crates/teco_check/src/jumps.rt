@@ -1,11 +1,12 @@
 //! Where jumps look for their tags.
+ghost use Rattle.teco_core.specs.declared.profile.Profile.TheVariants.{Named};
 ghost use Rattle.std.specs.Prelude.{◌≡◌, ◌+◌, ◌≤◌, IfSome, List, ℕ, length};
 ghost use Rattle.teco_core.specs.declared.limits.TheConstants.{BLOCK_LIMIT};
 ghost use Rattle.teco_check.specs.Checked.{AreInside, lands_below};
 
 use std::alloc::Global;
-use teco_core::BLOCK_LIMIT;
-use teco_scan::{BlockMark, Found, Item, Tags, TextCommand, TokenKind, token_at};
+use teco_core::{BLOCK_LIMIT, Profile};
+use teco_scan::{BlockMark, Found, Item, Tags, Text, TextCommand, TokenKind, token_at};
 
 /// The most lists that are open: those of blocks, and that of the text.
 pub(crate) const LISTS: usize = BLOCK_LIMIT + 1;
@@ -21,8 +22,9 @@ pub(crate) fn lands_below(
     name: &[u8],
 ) -> bool
     requires few { count ≤ BLOCK_LIMIT + 1 }
-    requires inside { AreInside tags.now starts.now count }
-    ensures { result ≡ lands_below tags.now starts.now count name.now }
+    requires named { tags.now.profile ≡ Named }
+    requires inside { AreInside tags.now.bytes.now starts.now count }
+    ensures { result ≡ lands_below tags.now.bytes.now starts.now count name.now }
 {
     let mut below = count;
     while below > 0 {
@@ -37,7 +39,7 @@ pub(crate) fn lands_below(
 /// Gathers the tags of the lists in which a jump looks, from the innermost out, up to one whose tags are gathered.
 fn gather_open(tags: &mut Tags<'_>, starts: &[usize; LISTS], depth: usize)
     requires few { depth ≤ BLOCK_LIMIT }
-    requires inside { AreInside tags.old starts.now (depth + 1) }
+    requires inside { AreInside tags.old.bytes.now starts.now (depth + 1) }
     ensures { tags.new ≡ tags.old }
 {
     for below in (0..depth + 1).rev() {
@@ -81,12 +83,17 @@ fn is_jump(kind: TokenKind) -> bool {
     matches!(kind, TokenKind::Item(Item::Text(TextCommand::Go, _)))
 }
 
-/// The tags of the lists in which the jumps of a text look, but for the first few jumps. Which lists are gathered changes only how fast
+/// The tags of the lists in which the jumps of a text look, as the named profile reads it, but for the first few jumps. Which lists are gathered changes only how fast
 /// a tag is found.
 pub(crate) fn gathered<'t>(text: &'t [u8], memory: Option<Global>) -> Tags<'t>
-    ensures { result ≡ text.now }
+    ensures text { result.bytes.now ≡ text.now }
+    ensures named { result.profile ≡ Named }
 {
-    let mut tags = Tags::new(text, memory);
+    let whole = Text {
+        profile: Profile::Named,
+        bytes: text,
+    };
+    let mut tags = Tags::new(whole, memory);
     if memory.is_none() {
         return tags;
     }
@@ -94,7 +101,7 @@ pub(crate) fn gathered<'t>(text: &'t [u8], memory: Option<Global>) -> Tags<'t>
     let mut depth = 0;
     let mut jumps = 0;
     let mut at = 0;
-    'gathering: while let Found::Token(token) = token_at(text, at) {
+    'gathering: while let Found::Token(token) = token_at(Profile::Named, text, at) {
         at = token.span.to;
         let Some(now) = depth_after(&mut starts, depth, token.kind, at) else {
             return tags;

@@ -1,4 +1,4 @@
-//! What every part of the editor speaks of: codes, numbers, arguments, registers and the push-down list.
+//! What every part of the editor speaks of: codes, numbers, arguments, registers, the push-down list and the profile of the language.
 #![tactic(auto)]
 
 mod arguments;
@@ -8,6 +8,7 @@ mod code;
 mod laws;
 mod limits;
 mod number;
+mod profile;
 mod push_down;
 mod register;
 
@@ -21,6 +22,7 @@ pub use limits::{
     limit_values,
 };
 pub use number::{Op, decimal, operation};
+pub use profile::Profile;
 pub use push_down::PushList;
 pub use register::{Reg, Registers, Value};
 pub use std::alloc::AllocError as NoMemory;

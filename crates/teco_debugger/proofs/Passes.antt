@@ -29,7 +29,7 @@ module _ (walk : KeptWalk) where
   -- the run stands there after just the steps that a place tells
   visit_there : (n e : ℕ) (p : Place) → IsLastPlace start walk.text e p → p.steps ≡ n → IsVisit start walk.text n (calls_at p) p.at
   visit_there n e p last same = record {
-    told = told_of last.innermost p;
+    told = told_of start.profile last.innermost p;
     stood = record {
       there = last.stood.there;
       stands = last.stood.stands;

@@ -10,8 +10,9 @@ use Rattle.teco_exec.specs.Runs.{Runs, EndsWell}
 use Rattle.teco_exec.specs.StringMeaning.{string_meaning}
 use Rattle.teco_exec.specs.declared.outcome.Outcome.{Outcome}
 use Rattle.teco_check.specs.Checked.{held}
-use Rattle.teco_check.specs.CleanRuns.{HoldsCode, IsRight, NeverFaults, is_static}
+use Rattle.teco_check.specs.CleanRuns.{IsCleanState, IsRight, NeverFaults, is_static}
 use Rattle.teco_check.specs.Clean.{clean_within, is_clean}
+use Rattle.teco_core.specs.declared.profile.Profile.TheVariants.{Named}
 use Rattle.teco_scan.specs.Lists.{list_at, list_within}
 use Rattle.teco_scan.specs.Scan.{after_fillers, scan}
 use Rattle.teco_session.specs.Answers.{answer_code, is_refused, string_outcome}
@@ -49,15 +50,15 @@ all_front P (x ∷ xs) ys h = (h.0, all_front P xs ys h.1)
 
 record IsSafeNote (code : List Bool) (note : NotedString) : Type 0 where
   pub text : IsRight code note.text None
-  pub state : HoldsCode (held code) note.state.registers
+  pub state : IsCleanState (held code) note.state
 
 record IsSafeHistory (code : List Bool) (h : History) : Type 0 where
-  pub first : HoldsCode (held code) h.first.registers
+  pub first : IsCleanState (held code) h.first
   pub notes : AllByRecursion (IsSafeNote code) h.notes
 
 -- each state of such a history is safe
-state_safe : (code : List Bool) (first : State) (notes : List NotedString) (n : ℕ) → HoldsCode (held code) first.registers
-    → AllByRecursion (IsSafeNote code) notes → HoldsCode (held code) (state_after first notes n).registers
+state_safe : (code : List Bool) (first : State) (notes : List NotedString) (n : ℕ) → IsCleanState (held code) first
+    → AllByRecursion (IsSafeNote code) notes → IsCleanState (held code) (state_after first notes n)
 state_safe code first notes zero f h = f
 state_safe code first [] (suc n) f h = f
 state_safe code first (note ∷ notes) (suc n) f h = state_safe code note.state notes n h.0.state h.1
@@ -78,7 +79,7 @@ without_first_safe code n h s = record { first = state_safe code h.first h.notes
 noted_safe : (code : List Bool) (h : History) (note : NotedString) → IsSafeHistory code h → IsSafeNote code note → IsSafeHistory code (noted h note)
 noted_safe code h note s n = without_first_safe code _ (appended h note) (appended_safe code h note s n)
 
-present_safe : (code : List Bool) (h : History) → IsSafeHistory code h → HoldsCode (held code) (present h).registers
+present_safe : (code : List Bool) (h : History) → IsSafeHistory code h → IsCleanState (held code) (present h)
 present_safe code h s = state_safe code h.first h.notes h.cursor s.first s.notes
 
 undone_safe : (code : List Bool) (h : History) → IsSafeHistory code h → IsSafeHistory code (undone h)
@@ -90,32 +91,32 @@ redone_safe code h s = record { first = s.first; notes = s.notes }
 rewound_safe : (code : List Bool) (n : ℕ) (h : History) → IsRight code [] None → IsSafeHistory code h → IsSafeHistory code (rewound n h)
 rewound_safe code n h nothing s =
     let note : IsSafeNote code (note_at h (h.cursor - 1)) = note_safe code h.notes (h.cursor - 1) _ s.notes (record { text = nothing; state = s.first }) in
-    let before : HoldsCode (held code) (present (undone h)).registers = present_safe code (undone h) (undone_safe code h s) in
-    appended_safe code (undone h) _ (undone_safe code h s) (record { text = note.text; state = (note.text (present (undone h)) _ before).registers })
+    let before : IsCleanState (held code) (present (undone h)) = present_safe code (undone h) (undone_safe code h s) in
+    appended_safe code (undone h) _ (undone_safe code h s) (record { text = note.text; state = (note.text (present (undone h)) _ before).state })
 
 -- how a run of a right text ends, and what it leaves
 record RanSafe (code : List Bool) (outcome : Option Code) (next : State) : Type 0 where
-  pub state : HoldsCode (held code) next.registers
+  pub state : IsCleanState (held code) next
   pub codes : (c : Code) → outcome ≡ Some c → is_static c ≡ false
 
 ran_well : (code : List Bool) (s : State) (text : List ℕ) (limit : ℕ) (outcome : Outcome) (typed : List ℕ) (next : State) → IsRight code text None
-    → HoldsCode (held code) s.registers → EndsWell s text limit outcome typed next → RanSafe code outcome.code next
+    → IsCleanState (held code) s → EndsWell s text limit outcome typed next → RanSafe code outcome.code next
 ran_well code s text limit outcome typed next right before ends =
     let stays = right s limit before in
     record {
-      state = subst (λ (n : State). HoldsCode (held code) n.registers) (sym ends.state) stays.registers;
+      state = subst (λ (n : State). IsCleanState (held code) n) (sym ends.state) stays.state;
       codes = λ c e. stays.codes c (sym ends.code ∙ e);
     }
 
 ran_by : (code : List Bool) (s : State) (text : List ℕ) (limit k : ℕ) (c : Code) (next : State) → IsRight code text None
-    → HoldsCode (held code) s.registers → next ≡ (string_meaning s text k).state → is_static c ≡ false → RanSafe code (Some c) next
+    → IsCleanState (held code) s → next ≡ (string_meaning s text k).state → is_static c ≡ false → RanSafe code (Some c) next
 ran_by code s text limit k c next right before is none = record {
-  state = subst (λ (n : State). HoldsCode (held code) n.registers) (sym is) (right s k before).registers;
+  state = subst (λ (n : State). IsCleanState (held code) n) (sym is) (right s k before).state;
   codes = λ d e. let same : c ≡ d = cc in subst (λ (x : Code). is_static x ≡ false) same none;
 }
 
 ran : (code : List Bool) (s : State) (text : List ℕ) (limit : ℕ) (ended : Option Code) (steps : ℕ) (typed : List ℕ) (next : State) → IsRight code text None
-    → HoldsCode (held code) s.registers → Runs s text limit (record { code = ended; steps = steps }) typed next → RanSafe code ended next
+    → IsCleanState (held code) s → Runs s text limit (record { code = ended; steps = steps }) typed next → RanSafe code ended next
 ran code s text limit None steps typed next right before runs = ran_well code s text limit _ typed next right before runs
 ran code s text limit (Some codes.Mem) steps typed next right before runs = ran_by code s text limit steps codes.Mem next right before runs.state refl
 ran code s text limit (Some codes.Tty) steps typed next right before runs = ran_by code s text limit steps codes.Tty next right before runs.state refl
@@ -250,7 +251,7 @@ nothing_clean : (code : ℕ → Bool) → clean_within 1 code [] ≡ true
 unfolding clean_within is_clean list_at list_within scan after_fillers
 nothing_clean code = refl
 
-first_safe : (code : List Bool) (first : State) (depth : Option ℕ) → HoldsCode (held code) first.registers → IsSafeHistory code (history_from depth first)
+first_safe : (code : List Bool) (first : State) (depth : Option ℕ) → IsCleanState (held code) first → IsSafeHistory code (history_from depth first)
 first_safe code first depth holds = record { first = holds; notes = tt }
 
 pub never_answers : (allowed : Allowance) → NeverFaults → NeverAnswersFault allowed

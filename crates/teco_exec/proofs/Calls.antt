@@ -1,7 +1,6 @@
 -- Texts that are called: how their copy begins, and what their end is to the text that called.
 use Rattle.std.proofs.Common.{◌≡◌, ℕ, true, is_some, ◌+◌, ◌<◌, ◌≤◌, List, ◌∷◌, length, Option, Some, None, refl, sym, subst}
 use Rattle.teco_core.specs.Arguments.{Arguments}
-use Rattle.teco_core.specs.declared.code.Code.{Code}
 use Rattle.teco_store.specs.State.{State}
 use Rattle.teco_store.specs.Trail.{Trail, most_changes, moved, stepped}
 use Rattle.teco_exec.specs.Machine.{Caller}
@@ -22,14 +21,14 @@ pub enters_copy : (c : Cursor) (q : ℕ) (callers : List Caller) (o : Origin) (h
     → (steps : ℕ) → steps ≡ h.steps + 1 → (same : State) → same ≡ h.state → (G : Trail → Type 0) → ((u : Trail) → h.follows u → h.follows (moved u 0))
     → ((u : Trail) → h.follows u → u.changes ≤ most_changes → steps ≡ u.steps + 1 → u.states steps ≡ h.state → u.load ≤ u.loads steps → G (stepped u))
     → (text : List ℕ) → text ≡ text_in c q callers h.state → length callers < 32
-    → ReachesContinuation o h (host_of same G h.screen steps) (at_beginning (cursor c).args text (caller c ∷ callers))
+    → ReachesContinuation o h (host_of same G h.screen steps) (at_beginning c.text.profile (cursor c).args text (caller c ∷ callers))
 enters_copy c q callers o h g steps count same is_same G eases marks text is few =
     let there = call_leads c q callers o h g steps count same is_same G eases marks text is in
     record { going = (enters o (host_of same G h.screen steps) c text callers there.going few).going; follows = there.follows }
 
 -- Where a called text ends the run, that is the end of the text that called too.
 pub ends_around : (limit : ℕ) (o : Origin) (h k : Host) (a : Arguments) (c : Cursor) (callers : List Caller) (x : Exit) → (x ≡ ending.Return → ⊥)
-    → Reaches limit o h k (reached_after_call c callers x) → Reaches limit o h k (reached_by_exit a callers x)
+    → Reaches limit o h k (reached_after_call c callers x) → Reaches limit o h k (reached_by_exit c.text.profile a callers x)
 ends_around limit o h k a c callers ending.Return on r = absurd (on refl)
 ends_around limit o h k a c callers ending.Over on r = r
 ends_around limit o h k a c callers (ending.Fail code) on r = r

@@ -15,6 +15,7 @@ use Rattle.teco_exec.specs.CursorMoves as machine
 use Rattle.teco_exec.specs.declared.blocks.Block.{Block}
 use Rattle.teco_exec.specs.declared.blocks.Body.{Body}
 use Rattle.teco_exec.specs.declared.blocks.Body.TheVariants as body
+use Rattle.teco_core.specs.declared.profile.Profile.{Profile}
 
 pub frames_nil : {bs : List Block} (text : List ℕ) → bs ≡ [] → frames text bs ≡ []
 unfolding frames
@@ -133,23 +134,24 @@ deep {bs = bs} {outer = outer} text e len = let h : length bs ≡ suc (length ou
 deeper : (text : List ℕ) (bs : List Block) (n : ℕ) → n ≡ length bs → n + 1 ≡ suc (length (frames text bs))
 deeper text bs n e = omega (arith, frames_length text bs)
 
-pub divides_then : {bs outer : List Block} {b : Block} {n : ℕ} (text more : List ℕ) (x : Close) → bs ≡ b ∷ outer → kind_of b.body ≡ Then → n ≡ length bs
-    → x ≡ (list_at (Some Else) n more).1 → passed_or_fault (after_skip (past x) (after_block_end more (frames text outer))) ≡ machine.pass_divider more (frames text bs)
-divides_then text more x e is len skip = rw (skip, deep text e len, frames_kind text e is)
+module _ (profile : Profile) where
+  pub divides_then : {bs outer : List Block} {b : Block} {n : ℕ} (text more : List ℕ) (x : Close) → bs ≡ b ∷ outer → kind_of b.body ≡ Then → n ≡ length bs
+      → x ≡ (list_at profile (Some Else) n more).1 → passed_or_fault (after_skip (past x) (after_block_end more (frames text outer))) ≡ machine.pass_divider profile more (frames text bs)
+  divides_then text more x e is len skip = rw (skip, deep text e len, frames_kind text e is)
 
--- the same where it ends well, with arguments that were dropped
-pub divides_on : {bs outer : List Block} {b : Block} {n : ℕ} {a : Arguments} (text more rest : List ℕ) (divided : Bool) → a ≡ no_arguments → bs ≡ b ∷ outer → kind_of b.body ≡ Then → n ≡ length bs
-    → lists.closed divided rest ≡ (list_at (Some Else) n more).1 → passed_to (record { args = a; left = rest; blocks = frames text outer }) ≡ machine.pass_divider more (frames text bs)
-divides_on {outer = outer} text more rest divided dropped e is len skip =
-    ap (λ a. passed_to (record { args = a; left = rest; blocks = frames text outer })) dropped ∙ divides_then text more (lists.closed divided rest) e is len skip
+  -- the same where it ends well, with arguments that were dropped
+  pub divides_on : {bs outer : List Block} {b : Block} {n : ℕ} {a : Arguments} (text more rest : List ℕ) (divided : Bool) → a ≡ no_arguments → bs ≡ b ∷ outer → kind_of b.body ≡ Then → n ≡ length bs
+      → lists.closed divided rest ≡ (list_at profile (Some Else) n more).1 → passed_to (record { args = a; left = rest; blocks = frames text outer }) ≡ machine.pass_divider profile more (frames text bs)
+  divides_on {outer = outer} text more rest divided dropped e is len skip =
+      ap (λ a. passed_to (record { args = a; left = rest; blocks = frames text outer })) dropped ∙ divides_then text more (lists.closed divided rest) e is len skip
 
-pub passed_over : {n : ℕ} (text more : List ℕ) (bs : List Block) (x : Past) (c : Cursor) → n ≡ length bs → x ≡ past (list_at (Some Iter) (n + 1) more).1
-    → after_skip x c ≡ after_skip (past (list_at (Some Iter) (suc (length (frames text bs))) more).1) c
-passed_over {n = n} text more bs x c len skip = rw (skip, deeper text bs n len)
+  pub passed_over : {n : ℕ} (text more : List ℕ) (bs : List Block) (x : Past) (c : Cursor) → n ≡ length bs → x ≡ past (list_at profile (Some Iter) (n + 1) more).1
+      → after_skip x c ≡ after_skip (past (list_at profile (Some Iter) (suc (length (frames text bs))) more).1) c
+  passed_over {n = n} text more bs x c len skip = rw (skip, deeper text bs n len)
 
-pub second_is : {n : ℕ} (text more : List ℕ) (bs : List Block) (x : Close) (c : Cursor) → n ≡ length bs → x ≡ (list_at (Some Then) (n + 1) more).1
-    → inside_second_part x c ≡ inside_second_part (list_at (Some Then) (suc (length (frames text bs))) more).1 c
-second_is {n = n} text more bs x c len skip = rw (skip, deeper text bs n len)
+  pub second_is : {n : ℕ} (text more : List ℕ) (bs : List Block) (x : Close) (c : Cursor) → n ≡ length bs → x ≡ (list_at profile (Some Then) (n + 1) more).1
+      → inside_second_part x c ≡ inside_second_part (list_at profile (Some Then) (suc (length (frames text bs))) more).1 c
+  second_is {n = n} text more bs x c len skip = rw (skip, deeper text bs n len)
 
 -- A turn ends: the next one begins, or the iteration is over.
 module _ (text more left : List ℕ) (a : Arguments) where
@@ -175,29 +177,30 @@ module _ (text more left : List ℕ) (a : Arguments) where
   turn_is_last bs outer None e is last = absurd (subst EndsTurn e.0 is)
   turn_is_last bs outer (Some b) e is last = rw e (ap (λ o. Ok (turned_to outer o)) (sym (subst (λ bs. next_turn bs ≡ None) e last)) ∙ turned b outer b.body (subst EndsTurn e is))
 
--- blocks that are left
-pub leaving_none : {bs : List Block} (text : List ℕ) (a : Arguments) (left : List ℕ) → bs ≡ [] → Err Sni ≡ after_leaving_iteration (frames text bs) a left
-unfolding after_leaving_iteration
-leaving_none text a left e = sym (ap (λ fs. after_leaving_iteration fs a left) (frames_nil text e))
-
-module _ {bs outer : List Block} {b : Block} {n : ℕ} (text left : List ℕ) (a : Arguments) (k : Kind) (x : Past)
-    (e : bs ≡ b ∷ outer) (is : k ≡ kind_of b.body) (len : n ≡ length bs) (skip : x ≡ behind_block list_at k n (list_at (Some k) n left).1) where
-  -- one block is left, of a kind that is known
-  pub leaves : {j : Kind} → k ≡ j → after_leaving_block (λ c. after_leaving_iteration (frames text outer) c.args c.left) j a (frames text outer) x ≡ after_leaving_iteration (frames text bs) a left
+module _ (profile : Profile) where
+  -- blocks that are left
+  pub leaving_none : {bs : List Block} (text : List ℕ) (a : Arguments) (left : List ℕ) → bs ≡ [] → Err Sni ≡ after_leaving_iteration profile (frames text bs) a left
   unfolding after_leaving_iteration
-  leaves same = rw (← same, skip, deep text e len, is, frames_cons text e)
+  leaving_none text a left e = sym (ap (λ fs. after_leaving_iteration profile fs a left) (frames_nil text e))
 
-  pub leaves_part : (more : List ℕ) → x ≡ Ok more → (k ≡ Then) ⊎ (k ≡ Else) → after_leaving_iteration (frames text outer) a more ≡ after_leaving_iteration (frames text bs) a left
-  leaves_part more passed (inl part) = ap (after_leaving_block (λ c. after_leaving_iteration (frames text outer) c.args c.left) Then a (frames text outer)) (sym passed) ∙ leaves part
-  leaves_part more passed (inr part) = ap (after_leaving_block (λ c. after_leaving_iteration (frames text outer) c.args c.left) Else a (frames text outer)) (sym passed) ∙ leaves part
+  module _ {bs outer : List Block} {b : Block} {n : ℕ} (text left : List ℕ) (a : Arguments) (k : Kind) (x : Past)
+      (e : bs ≡ b ∷ outer) (is : k ≡ kind_of b.body) (len : n ≡ length bs) (skip : x ≡ behind_block (list_at profile) k n (list_at profile (Some k) n left).1) where
+    -- one block is left, of a kind that is known
+    pub leaves : {j : Kind} → k ≡ j → after_leaving_block (λ c. after_leaving_iteration profile (frames text outer) c.args c.left) j a (frames text outer) x ≡ after_leaving_iteration profile (frames text bs) a left
+    unfolding after_leaving_iteration
+    leaves same = rw (← same, skip, deep text e len, is, frames_cons text e)
 
--- Jumps: to a tag in the innermost list, or in a list around it.
-abbrev pub around : List ℕ → List ℕ → Arguments → List Block → machine.CursorOrError
-around text name a [] = Err Tag
-around text name a (b ∷ outer) = after_jump name text (frames text outer) a
+    pub leaves_part : (more : List ℕ) → x ≡ Ok more → (k ≡ Then) ⊎ (k ≡ Else) → after_leaving_iteration profile (frames text outer) a more ≡ after_leaving_iteration profile (frames text bs) a left
+    leaves_part more passed (inl part) = ap (after_leaving_block (λ c. after_leaving_iteration profile (frames text outer) c.args c.left) Then a (frames text outer)) (sym passed) ∙ leaves part
+    leaves_part more passed (inr part) = ap (after_leaving_block (λ c. after_leaving_iteration profile (frames text outer) c.args c.left) Else a (frames text outer)) (sym passed) ∙ leaves part
 
-pub jumps : {n start : ℕ} (text name : List ℕ) (a : Arguments) (bs : List Block) (o : Option (List ℕ)) → n ≡ length bs → start ≡ list_start bs → o ≡ tag_at name n (drop start text)
-    → after_tag_or o a (frames text bs) (around text name a bs) ≡ after_jump name text (frames text bs) a
-unfolding frames after_jump
-jumps text name a [] o len at finds = rw (finds, len, at)
-jumps text name a (b ∷ outer) o len at finds = rw (finds, len, at, frames_length text outer)
+  -- Jumps: to a tag in the innermost list, or in a list around it.
+  abbrev pub around : List ℕ → List ℕ → Arguments → List Block → machine.CursorOrError
+  around text name a [] = Err Tag
+  around text name a (b ∷ outer) = after_jump profile name text (frames text outer) a
+
+  pub jumps : {n start : ℕ} (text name : List ℕ) (a : Arguments) (bs : List Block) (o : Option (List ℕ)) → n ≡ length bs → start ≡ list_start bs → o ≡ tag_at profile name n (drop start text)
+      → after_tag_or o a (frames text bs) (around text name a bs) ≡ after_jump profile name text (frames text bs) a
+  unfolding frames after_jump
+  jumps text name a [] o len at finds = rw (finds, len, at)
+  jumps text name a (b ∷ outer) o len at finds = rw (finds, len, at, frames_length text outer)

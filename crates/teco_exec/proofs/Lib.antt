@@ -16,6 +16,7 @@ pub mod NoMemory
 pub mod Standings
 pub mod Turns
 pub mod Outermost
+pub mod Profiles
 pub mod Placings
 pub mod Visited
 pub mod Calls

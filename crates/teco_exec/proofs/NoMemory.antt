@@ -3,7 +3,9 @@ use Rattle.std.proofs.Common.{arith, ◌≡◌, ℕ, Bool, true, List, [], Optio
 use Rattle.teco_core.specs.declared.code.Code.{Code}
 use Rattle.teco_core.specs.declared.code.Code.TheVariants.{Mem}
 use Rattle.teco_core.specs.Arguments.{Arguments, no_arguments}
-use Rattle.teco_scan.specs.ListLaws.{BlockLaws}
+use Rattle.teco_core.specs.declared.profile.Profile.{Profile}
+use Rattle.teco_scan.specs.declared.text.Text.{Text}
+use Rattle.teco_scan.specs.ListLaws.{EachBlockLaws}
 use Rattle.teco_scan.specs.Lists.{Listed, nodes}
 use Rattle.teco_scan.specs.declared.token.Found.{Found}
 use Rattle.teco_scan.specs.declared.token.TokenKind.{TokenKind}
@@ -23,31 +25,36 @@ both : (a b : Bool) → (a && b) ≡ true → (a ≡ true) × (b ≡ true)
 both a b e = grind arith
 
 -- what comes in such a text
-quiet_here : (c : MachineCursor) (bs : List ℕ) (a : Arguments) → c.blocks ≡ [] → takes_no_memory (here c.blocks bs).0 ≡ true → IsQuiet (record c { args = a; left = bs })
-quiet_here c bs a none e = record { blocks = none; left = subst (λ (blocks : List Frame). takes_no_memory (here blocks bs).0 ≡ true) none e }
+quiet_here : (p : Profile) (c : MachineCursor) (bs : List ℕ) (a : Arguments) → c.blocks ≡ [] → takes_no_memory (here p c.blocks bs).0 ≡ true → IsQuiet p (record c { args = a; left = bs })
+quiet_here p c bs a none e = record { blocks = none; left = subst (λ (blocks : List Frame). takes_no_memory (here p blocks bs).0 ≡ true) none e }
 
-quiet : {c : MachineCursor} {l : Listed} {k : MachineComing} → Passes c l k → c.blocks ≡ [] → takes_no_memory l.0 ≡ true → QuietComing k
-quiet (item_comes c m i bs) none e = let b = both (takes_nothing i) _ e in (b.0, quiet_here c bs c.args none b.1)
-quiet (escape_passes c bs lt) none e = quiet_here c bs no_arguments none e
-quiet (tag_passes c name bs lt) none e = absurd cc
-quiet (iteration_opens c bs) none e = absurd cc
-quiet (conditional_opens c t bs) none e = absurd cc
-quiet (turn_ends a left start turns outer bs) none e = absurd cc
-quiet (part_ends a left b outer l bs part is lt) none e = absurd cc
-quiet p none e = tt
+quiet : (p : Profile) {c : MachineCursor} {l : Listed} {k : MachineComing} → Passes p c l k → c.blocks ≡ [] → takes_no_memory l.0 ≡ true → QuietComing p k
+quiet p (item_comes c m i bs) none e = let b = both (takes_nothing i) _ e in (b.0, quiet_here p c bs c.args none b.1)
+quiet p (escape_passes c bs lt) none e = quiet_here p c bs no_arguments none e
+quiet p (tag_passes c name bs lt) none e = absurd cc
+quiet p (iteration_opens c bs) none e = absurd cc
+quiet p (conditional_opens c t bs) none e = absurd cc
+quiet p (turn_ends a left start turns outer bs) none e = absurd cc
+quiet p (part_ends a left b outer l bs part is lt) none e = absurd cc
+quiet p k none e = tt
 
-pub comes_quietly : BlockLaws → (old to : Cursor) (found : Found) (n : Coming) → coming_of to found n ≡ pass (cursor old) → IsQuiet (cursor old) → QuietComing (coming_of to found n)
-comes_quietly laws old to found n e q =
+pub comes_quietly : EachBlockLaws → (old to : Cursor) (found : Found) (n : Coming) → to.text ≡ old.text → coming_of to found n ≡ pass old.text.profile (cursor old) → IsQuiet old.text.profile (cursor old)
+    → QuietComing to.text.profile (coming_of to found n)
+comes_quietly laws old to found n same e q =
     let c : MachineCursor = cursor old in
-    subst QuietComing (sym e) (quiet (passes laws c) q.blocks (subst (λ (blocks : List Frame). takes_no_memory (here blocks c.left).0 ≡ true) (sym q.blocks) q.left))
+    let p : Profile = old.text.profile in
+    subst (λ (t : Text). QuietComing t.profile (coming_of to found n)) (sym same)
+    (subst (QuietComing p) (sym e) (quiet p (passes p (laws p) c) q.blocks (subst (λ (blocks : List Frame). takes_no_memory (here p blocks c.left).0 ≡ true) (sym q.blocks) q.left)))
 
 pub kind_quietly : (text : List ℕ) (n : ℕ) (k : TokenKind) → IsStepKind n k → takes_nothing (item_of_kind text k) ≡ true → kind_takes_nothing text k ≡ true
 kind_quietly text n (kind.Item i) is h = h
 kind_quietly text n k is h = absurd is
 
 -- the beginning and the end of a whole text
-pub begins_quietly : (a : Arguments) (text : List ℕ) (c : MachineCursor) → c ≡ cursor_at_start a text → takes_no_memory (nodes text) ≡ true → IsQuiet c
-begins_quietly a text c e h = subst IsQuiet (sym e) (record { blocks = refl; left = h })
+pub begins_quietly : (a : Arguments) (text : Text) (c : Cursor) → c.text ≡ text → cursor c ≡ cursor_at_start a text.bytes.now → takes_no_memory (nodes text.profile text.bytes.now) ≡ true
+    → IsQuiet c.text.profile (cursor c)
+begins_quietly a text c same e h =
+    subst (λ (t : Text). IsQuiet t.profile (cursor c)) (sym same) (subst (IsQuiet text.profile) (sym e) (record { blocks = refl; left = h }))
 
 pub ends_quietly : (exit : Exit) (code : Option Code) → code ≡ code_left exit → (code_left exit ≡ Some Mem → ⊥) → code ≡ Some Mem → ⊥
 ends_quietly exit code is h e = h (sym is ∙ e)

@@ -13,9 +13,10 @@ use Rattle.teco_scan.specs.declared.command.Modifiers.{Modifiers}
 use Rattle.teco_scan.specs.declared.command.Name.{Name}
 use Rattle.teco_scan.specs.declared.command.Name.TheVariants.{One}
 use Rattle.teco_scan.specs.declared.command.Row.{Row}
-use Rattle.teco_scan.specs.declared.table.TheConstants.{ROWS}
+use Rattle.teco_core.specs.declared.profile.Profile.{Profile}
+use Rattle.teco_core.specs.declared.profile.Profile.TheVariants.{Named, Wide}
 use Rattle.teco_core.specs.Ascii.{is_filler}
-use Rattle.teco_scan.specs.Scan.{Instruction, TokenMeaning, Reading, found, scanned, scan, scan_here, after_fillers, after_letter, after_name, row_at, command_at, operand_at, modifiers_at, token_from}
+use Rattle.teco_scan.specs.Scan.{rows_of, Instruction, TokenMeaning, Reading, found, scanned, scan, scan_here, after_fillers, after_letter, after_name, row_at, command_at, operand_at, modifiers_at, token_from}
 use Rattle.teco_scan.specs.Spelling.{Marks, no_mark, at_mark, colon_mark, SpellsName, one_spelled, SpellsOperand, bare_spelled, Among, Spells, run_spelled, command_spelled, IsSpelled}
 use Rattle.teco_exec.specs.CursorMoves.{leave_is_next}
 use Rattle.teco_exec.specs.Semicolon.{is_semicolon}
@@ -60,32 +61,38 @@ operand_leaves rest (bare_spelled {c = bares.Command commands.Leave}) e = (e, re
 operand_leaves rest (bare_spelled {c = c}) e = absurd cc
 operand_leaves rest s e = absurd cc
 
-token_leaves : {t : TokenMeaning} {bs : List ℕ} (rest : List ℕ) → Spells ROWS t bs → leave_is_next (found t rest) ≡ true → is_semicolon (bs ++ rest) ≡ true
-token_leaves rest (run_spelled some digits) e = absurd cc
-token_leaves rest (command_spelled row operand b so) e =
-    let is = operand_leaves rest so e in
-    rw (b.whole, (no_marks b.marked is.0).0) (spells_semicolon operand rest b.named (row_names row ROWS b.among refl is.1))
+all_named : (p : Profile) → list_all names_so (rows_of p) ≡ true
+unfolding is_leave_form is_semicolon_name names_so
+all_named Named = refl
+all_named Wide = refl
 
-leads : IsSpelled ROWS → (bs : List ℕ) → leave_is_next (scanned (token_from ROWS bs)) ≡ true → is_semicolon bs ≡ true
-leads spelled bs = by (token_from ROWS bs) (λ t rest. spelled bs rest t)
+token_leaves : (p : Profile) {t : TokenMeaning} {bs : List ℕ} (rest : List ℕ) → Spells (rows_of p) t bs → leave_is_next (found t rest) ≡ true → is_semicolon (bs ++ rest) ≡ true
+token_leaves p rest (run_spelled some digits) e = absurd cc
+token_leaves p rest (command_spelled row operand b so) e =
+    let is = operand_leaves rest so e in
+    rw (b.whole, (no_marks b.marked is.0).0) (spells_semicolon operand rest b.named (row_names row (rows_of p) b.among (all_named p) is.1))
+
+leads : (p : Profile) → IsSpelled (rows_of p) → (bs : List ℕ) → leave_is_next (scanned (token_from (rows_of p) bs)) ≡ true → is_semicolon bs ≡ true
+leads p spelled bs = by (token_from (rows_of p) bs) (λ t rest. spelled bs rest t)
   where
-    by : (r : Reading TokenMeaning) → ((t : TokenMeaning) (rest : List ℕ) → r ≡ Ok (t, rest) → (front : List ℕ) × Spells ROWS t front × (bs ≡ front ++ rest)) → leave_is_next (scanned r) ≡ true → is_semicolon bs ≡ true
-    by (Ok x) read e = let s = read x.0 x.1 refl in ap is_semicolon s.2 ∙ token_leaves x.1 s.1 e
+    by : (r : Reading TokenMeaning) → ((t : TokenMeaning) (rest : List ℕ) → r ≡ Ok (t, rest) → (front : List ℕ) × Spells (rows_of p) t front × (bs ≡ front ++ rest)) → leave_is_next (scanned r) ≡ true → is_semicolon bs ≡ true
+    by (Ok x) read e = let s = read x.0 x.1 refl in ap is_semicolon s.2 ∙ token_leaves p x.1 s.1 e
     by (Err c) read e = absurd cc
 
-semicolon_leaves : (bs : List ℕ) → leave_is_next (scanned (token_from ROWS (59 ∷ bs))) ≡ true
+semicolon_leaves : (p : Profile) (bs : List ℕ) → leave_is_next (scanned (token_from (rows_of p) (59 ∷ bs))) ≡ true
 unfolding token_from modifiers_at command_at row_at after_name after_letter operand_at
-semicolon_leaves bs = refl
+semicolon_leaves Named bs = refl
+semicolon_leaves Wide bs = refl
 
-leave_here : IsSpelled ROWS → (xs : List ℕ) → is_semicolon xs ≡ leave_is_next (scan_here xs)
-leave_here spelled [] = refl
-leave_here spelled (b ∷ bs) = both_ways (b == 59) (leave_is_next (scanned (token_from ROWS (b ∷ bs))))
-    (λ e. subst (λ b. leave_is_next (scanned (token_from ROWS (b ∷ bs))) ≡ true) (sym (eqb-true b 59 e)) (semicolon_leaves bs))
-    (leads spelled (b ∷ bs))
+leave_here : (p : Profile) → IsSpelled (rows_of p) → (xs : List ℕ) → is_semicolon xs ≡ leave_is_next (scan_here p xs)
+leave_here p spelled [] = refl
+leave_here p spelled (b ∷ bs) = both_ways (b == 59) (leave_is_next (scanned (token_from (rows_of p) (b ∷ bs))))
+    (λ e. subst (λ b. leave_is_next (scanned (token_from (rows_of p) (b ∷ bs))) ≡ true) (sym (eqb-true b 59 e)) (semicolon_leaves p bs))
+    (leads p spelled (b ∷ bs))
 
-pub leave_comes : IsSpelled ROWS → (bs : List ℕ) → is_semicolon (after_fillers bs) ≡ leave_is_next (scan bs)
+pub leave_comes : (p : Profile) → IsSpelled (rows_of p) → (bs : List ℕ) → is_semicolon (after_fillers bs) ≡ leave_is_next (scan p bs)
 unfolding scan
-leave_comes spelled bs = leave_here spelled (after_fillers bs)
+leave_comes p spelled bs = leave_here p spelled (after_fillers bs)
 
 -- The bytes before are fillers.
 pub passed_filler : (xs : List ℕ) (i d : ℕ) → i < length xs → is_filler (get_or xs i d) ≡ true → after_fillers (drop i xs) ≡ after_fillers (drop (i + 1) xs)

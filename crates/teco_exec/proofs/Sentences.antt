@@ -67,10 +67,10 @@ module _ (f : ℕ) (m n : Meaning) (h : Agree f m n) where
   calls_same text w depth lt = by (depth == 32)
     where
       by : (b : Bool) → Same w.fuel
-          (if b then (w, stop Pdo) else (let r : WorldAndEnd = m.list (nodes text) (nodes text) w (depth + 1) false in after_call r.0 r.1))
-          (if b then (w, stop Pdo) else (let r : WorldAndEnd = n.list (nodes text) (nodes text) w (depth + 1) false in after_call r.0 r.1))
+          (if b then (w, stop Pdo) else (let r : WorldAndEnd = m.list (nodes w.profile text) (nodes w.profile text) w (depth + 1) false in after_call r.0 r.1))
+          (if b then (w, stop Pdo) else (let r : WorldAndEnd = n.list (nodes w.profile text) (nodes w.profile text) w (depth + 1) false in after_call r.0 r.1))
       by true = here w (stop Pdo)
-      by false = then_same w.fuel after_call after_call (h.list (nodes text) (nodes text) w (depth + 1) false lt) (λ v e le. returned_same v e)
+      by false = then_same w.fuel after_call after_call (h.list (nodes w.profile text) (nodes w.profile text) w (depth + 1) false lt) (λ v e le. returned_same v e)
 
   carries_same : (i : Item) (setting : Setting) (depth : ℕ) (w : World) (e : End) → w.fuel < f → Same w.fuel (run_after_step m i setting depth w e) (run_after_step n i setting depth w e)
   carries_same i setting depth w (call text) lt = calls_same text w depth lt
@@ -212,7 +212,7 @@ pub step : StepComesTo
 step whole rest m i w depth n inside fuel =
     let u : World = stepped_world m i rest w inside n in
     let comes : (e : End) → (first_effect m i rest w inside).end ≡ e → meaning.list whole (item m i rest) w depth inside ≡ comes_to whole rest i (first_setting m inside (leave_comes rest)) depth u e = stepped whole rest m i w depth n inside fuel in
-    let called : List ℕ → WorldAndEnd = λ text. meaning.list (nodes text) (nodes text) u (depth + 1) false in
+    let called : List ℕ → WorldAndEnd = λ text. meaning.list (nodes u.profile text) (nodes u.profile text) u (depth + 1) false in
     record {
       goes_on = λ is. comes on is;
       error = λ c is. comes (stop c) is;

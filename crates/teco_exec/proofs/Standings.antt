@@ -1,10 +1,12 @@
 -- Where a run stops, and what it stands at.
 use Rattle.std.proofs.Common.{◌≡◌, ℕ, ◌+◌, ◌-◌, List, drop, Option, Some, None, OnErr, Result, Ok, Err, MatchResult, refl, sym, ap, subst, ◌∙◌, arith}
+use Rattle.teco_core.specs.declared.profile.Profile.{Profile}
 use Rattle.teco_core.specs.declared.code.Code.{Code}
+use Rattle.teco_scan.specs.declared.text.Text.{Text}
 use Rattle.teco_scan.specs.Scan.{Instruction, Item, scan, found, after_fillers}
 use Rattle.teco_scan.specs.Scan as scanned
 use Rattle.teco_scan.specs.Seen.{found_in, meaning_in, instruction_in}
-use Rattle.teco_scan.specs.ListLaws.{BlockLaws}
+use Rattle.teco_scan.specs.ListLaws.{EachBlockLaws}
 use Rattle.teco_scan.specs.declared.command.Modifiers.{Modifiers}
 use Rattle.teco_scan.specs.declared.token.Found.{Found}
 use Rattle.teco_scan.specs.declared.token.Found.TheVariants.{Token}
@@ -102,12 +104,19 @@ progress_stays_on a b c (Done f) p q = flow_stays_on a b c f p q
 
 -- before a step of a token
 module _ (token : ScannedToken) (callers : List Caller) where
-  abbrev made : List ℕ → ℕ → List Block → Standing
-  made text n bs = record { text = text; left = drop n text; blocks = frames text bs; callers = callers; token = Some (step_token token.modifiers (item_of_kind text token.kind)) }
+  abbrev made : Text → ℕ → List Block → Standing
+  made text n bs = record {
+    profile = text.profile;
+    text = text.bytes.now;
+    left = drop n text.bytes.now;
+    blocks = frames text.bytes.now bs;
+    callers = callers;
+    token = Some (step_token token.modifiers (item_of_kind text.bytes.now token.kind));
+  }
 
   same_standing : (c d : Cursor) → c.text ≡ d.text → Stays d c → token_standing c token callers ≡ token_standing d token callers
   same_standing c d text stays =
-      ap (λ t. made t.now c.at c.blocks) text ∙ ap (λ n. made d.text.now n c.blocks) stays.place ∙ ap (made d.text.now d.at) stays.frames
+      ap (λ t. made t c.at c.blocks) text ∙ ap (λ n. made d.text n c.blocks) stays.place ∙ ap (made d.text d.at) stays.frames
 
   pub token_stands : (o : Origin) (h : Host) (c d : Cursor) (work : Option Work) (k : ℕ) → k ≡ h.steps → RunGoesOn o h (at_token c token work callers) → c.text ≡ d.text → Stays d c
       → StandsAt o k (token_standing d token callers)
@@ -119,34 +128,34 @@ abbrev cursor_in : MachineCursor → MachineComing → MachineCursor
 cursor_in d (step_comes m i c) = c
 cursor_in d k = d
 
-kind_left : (text bs : List ℕ) (m : Modifiers) (n : ℕ) (k : TokenKind) (c d : MachineCursor) → IsStepKind n k → step_comes m (item_of_kind text k) d ≡ pass_instruction m (instruction_in text k) bs c → d ≡ record c { left = bs }
-kind_left text bs m n (kind.Item i) c d is e = ap (cursor_in c) e
-kind_left text bs m n k c d is e = absurd is
+kind_left : (p : Profile) (text bs : List ℕ) (m : Modifiers) (n : ℕ) (k : TokenKind) (c d : MachineCursor) → IsStepKind n k → step_comes m (item_of_kind text k) d ≡ pass_instruction p m (instruction_in text k) bs c → d ≡ record c { left = bs }
+kind_left p text bs m n (kind.Item i) c d is e = ap (cursor_in c) e
+kind_left p text bs m n k c d is e = absurd is
 
 kind_item : (text : List ℕ) (n : ℕ) (k : TokenKind) → IsStepKind n k → instruction_in text k ≡ scanned.step (item_of_kind text k)
 kind_item text n (kind.Item i) is = refl
 kind_item text n k is = absurd is
 
-module _ (from to : Cursor) (f : Found) (token : ScannedToken) (is : f ≡ Token token) (read : found_in from.text.now f ≡ scan (drop from.at from.text.now)) (comes : coming_of to f Step ≡ pass (cursor from))
+module _ (from to : Cursor) (f : Found) (token : ScannedToken) (is : f ≡ Token token) (read : found_in from.text.bytes.now f ≡ scan from.text.profile (drop from.at from.text.bytes.now)) (comes : coming_of to f Step ≡ pass from.text.profile (cursor from))
     (text : to.text ≡ from.text) (steps : (n : ℕ) × IsStepKind n token.kind) where
   abbrev after : List ℕ
-  after = drop token.span.to from.text.now
+  after = drop token.span.to from.text.bytes.now
 
-  here_read : scan (drop from.at from.text.now) ≡ found (meaning_in from.text.now token) after
-  here_read = sym read ∙ ap (found_in from.text.now) is
+  here_read : scan from.text.profile (drop from.at from.text.bytes.now) ≡ found (meaning_in from.text.bytes.now token) after
+  here_read = sym read ∙ ap (found_in from.text.bytes.now) is
 
   cursor_after : cursor to ≡ record (cursor from) { left = after }
   cursor_after =
-      kind_left from.text.now after token.modifiers steps.0 token.kind (cursor from) (cursor to) steps.1
-      (ap (λ t. step_comes token.modifiers (item_of_kind t.now token.kind) (cursor to)) (sym text) ∙ sym (ap (λ x. coming_of to x Step) is) ∙ comes ∙ ap (λ x. pass_scanned x (cursor from)) here_read)
+      kind_left from.text.profile from.text.bytes.now after token.modifiers steps.0 token.kind (cursor from) (cursor to) steps.1
+      (ap (λ t. step_comes token.modifiers (item_of_kind t.bytes.now token.kind) (cursor to)) (sym text) ∙ sym (ap (λ x. coming_of to x Step) is) ∙ comes ∙ ap (λ x. pass_scanned from.text.profile x (cursor from)) here_read)
 
-  pub token_read : IsReadAt from.text.now from.at (Some (step_token token.modifiers (item_of_kind to.text.now token.kind))) (cursor to).left
+  pub token_read : IsReadAt from.text.profile from.text.bytes.now from.at (Some (step_token token.modifiers (item_of_kind to.text.bytes.now token.kind))) (cursor to).left
   token_read =
-      let instruction = kind_item from.text.now steps.0 token.kind steps.1 ∙ ap (λ t. scanned.step (item_of_kind t.now token.kind)) (sym text) in (
+      let instruction = kind_item from.text.bytes.now steps.0 token.kind steps.1 ∙ ap (λ t. scanned.step (item_of_kind t.bytes.now token.kind)) (sym text) in (
         token.modifiers,
-        item_of_kind to.text.now token.kind,
+        item_of_kind to.text.bytes.now token.kind,
         here_read ∙ ap (λ i. found (record { modifiers = token.modifiers; instruction = i }) after) instruction
-            ∙ ap (found (record { modifiers = token.modifiers; instruction = scanned.step (item_of_kind to.text.now token.kind) })) (sym (ap (λ (c : MachineCursor). c.left) cursor_after)),
+            ∙ ap (found (record { modifiers = token.modifiers; instruction = scanned.step (item_of_kind to.text.bytes.now token.kind) })) (sym (ap (λ (c : MachineCursor). c.left) cursor_after)),
         refl,
       )
 
@@ -154,16 +163,16 @@ module _ (from to : Cursor) (f : Found) (token : ScannedToken) (is : f ≡ Token
   token_blocks = ap (λ (c : MachineCursor). c.blocks) cursor_after
 
   pub token_is : (callers : List Caller) → IsStandingAt from callers (token_standing to token callers)
-  token_is callers = record { text = ap (λ t. t.now) text; blocks = token_blocks; callers = refl; read = token_read }
+  token_is callers = record { profile = ap (λ t. t.profile) text; text = ap (λ t. t.bytes.now) text; blocks = token_blocks; callers = refl; read = token_read }
 
   -- a token that calls
-  call_read : (new : Cursor) (q : ℕ) → new.text ≡ to.text → Stays to new → token.kind ≡ call_of q → IsReadAt from.text.now from.at (Some (call_token q)) (cursor new).left
+  call_read : (new : Cursor) (q : ℕ) → new.text ≡ to.text → Stays to new → token.kind ≡ call_of q → IsReadAt from.text.profile from.text.bytes.now from.at (Some (call_token q)) (cursor new).left
   call_read new q same stays calls =
-      let left : (cursor to).left ≡ (cursor new).left = sym (ap (λ t. drop new.at t.now) same ∙ ap (λ n. drop n to.text.now) stays.place) in
-      subst (λ k. IsReadAt from.text.now from.at (Some (step_token token.modifiers (item_of_kind to.text.now k))) (cursor new).left) calls
-      (subst (λ x. IsReadAt from.text.now from.at (Some (step_token token.modifiers (item_of_kind to.text.now token.kind))) x) left token_read)
+      let left : (cursor to).left ≡ (cursor new).left = sym (ap (λ t. drop new.at t.bytes.now) same ∙ ap (λ n. drop n to.text.bytes.now) stays.place) in
+      subst (λ k. IsReadAt from.text.profile from.text.bytes.now from.at (Some (step_token token.modifiers (item_of_kind to.text.bytes.now k))) (cursor new).left) calls
+      (subst (λ x. IsReadAt from.text.profile from.text.bytes.now from.at (Some (step_token token.modifiers (item_of_kind to.text.bytes.now token.kind))) x) left token_read)
 
-  pub flow_read : (new : Cursor) (g : Flow) → new.text ≡ to.text → FlowStays to new g → OnCall g (λ q. token.kind ≡ call_of q) → OnCall g (λ q. IsReadAt from.text.now from.at (Some (call_token q)) (cursor new).left)
+  pub flow_read : (new : Cursor) (g : Flow) → new.text ≡ to.text → FlowStays to new g → OnCall g (λ q. token.kind ≡ call_of q) → OnCall g (λ q. IsReadAt from.text.profile from.text.bytes.now from.at (Some (call_token q)) (cursor new).left)
   flow_read new (Call q) same stays calls = call_read new q same stays calls
   flow_read new On same stays calls = tt
   flow_read new Return same stays calls = tt
@@ -173,7 +182,7 @@ module _ (from to : Cursor) (f : Found) (token : ScannedToken) (is : f ≡ Token
 
 -- A cursor that stays has the same blocks around it.
 pub blocks_stay : (to new : Cursor) → new.text ≡ to.text → Stays to new → (cursor new).blocks ≡ (cursor to).blocks
-blocks_stay to new same stays = ap (λ t. frames t.now new.blocks) same ∙ ap (frames to.text.now) stays.frames
+blocks_stay to new same stays = ap (λ t. frames t.bytes.now new.blocks) same ∙ ap (frames to.text.bytes.now) stays.frames
 
 pub last_blocks : (P : ℕ → Type 0) (from to new : Cursor) (f : Flow) (done : ℕ) → new.text ≡ to.text → (cursor to).blocks ≡ (cursor from).blocks → OnLast f done P → FlowStays to new f → OnLast f done (λ k. (cursor new).blocks ≡ (cursor from).blocks)
 last_blocks P from to new (Stop code) done same blocks p stays = blocks_stay to new same stays ∙ blocks
@@ -186,15 +195,15 @@ last_blocks P from to new Return done same blocks p stays = tt
 -- before a step of a block, and at a fault
 pub block_stands : (o : Origin) (h : Host) (c to : Cursor) (b : BlockStep) (dest k : ℕ) (callers : List Caller) → k ≡ h.steps → to ≡ c → RunGoesOn o h (at_block_step to b dest callers) → StandsSomewhere o k c callers
 block_stands o h c to b dest k callers same is g = record {
-  there = record { text = c.text.now; left = (cursor c).left; blocks = (cursor c).blocks; callers = callers; token = None };
+  there = record { profile = c.text.profile; text = c.text.bytes.now; left = (cursor c).left; blocks = (cursor c).blocks; callers = callers; token = None };
   stands = ap (stands_after o.state o.text) same ∙ ap (λ x. x.0) g.stands
-      ∙ ap (λ (x : Cursor). Some (record { text = x.text.now; left = (cursor x).left; blocks = (cursor x).blocks; callers = callers; token = None })) is;
-  is = record { text = refl; blocks = refl; callers = refl; read = refl };
+      ∙ ap (λ (x : Cursor). Some (record { profile = x.text.profile; text = x.text.bytes.now; left = (cursor x).left; blocks = (cursor x).blocks; callers = callers; token = None })) is;
+  is = record { profile = refl; text = refl; blocks = refl; callers = refl; read = refl };
 }
 
-pub fault_stands : BlockLaws → (o : Origin) (h : Host) (c to : Cursor) (f : Found) (code : Code) (callers : List Caller) → coming_of to f (Fault code) ≡ pass (cursor c) → RunGoesOn o h (at_cursor c callers) → StandsSomewhere o h.steps c callers
+pub fault_stands : EachBlockLaws → (o : Origin) (h : Host) (c to : Cursor) (f : Found) (code : Code) (callers : List Caller) → coming_of to f (Fault code) ≡ pass c.text.profile (cursor c) → RunGoesOn o h (at_cursor c callers) → StandsSomewhere o h.steps c callers
 fault_stands laws o h c to f code callers comes g = record {
-  there = record { text = c.text.now; left = (cursor c).left; blocks = (cursor c).blocks; callers = callers; token = None };
+  there = record { profile = c.text.profile; text = c.text.bytes.now; left = (cursor c).left; blocks = (cursor c).blocks; callers = callers; token = None };
   stands = ap (λ x. x.0) g.stands ∙ ap standing (faults laws c to f callers code comes (now_at o h.steps));
-  is = record { text = refl; blocks = refl; callers = refl; read = refl };
+  is = record { profile = refl; text = refl; blocks = refl; callers = refl; read = refl };
 }

@@ -64,21 +64,21 @@ module _ (text : List ℕ) (w : Setting) (i b : Bool) (s : State) (a : Arguments
   by_kind k h opens sees = absurd h
 
 -- The effect of a token is that of its item where it is.
-pub effect_here : (c : Cursor) (token : Token) (work : Option Work) (opens before : Bool) (s : State) → IsStepIn c.text.now token
-    → (looks_around token.kind ≡ true → opens ≡ inside_iteration (cursor c).blocks) → (looks_around token.kind ≡ true → before ≡ leave_is_next (scan (cursor c).left))
-    → token_effect c.text.now token (record { work = work; inside = opens; before = before }) s (arguments c.args) ≡ effect (item_of_kind c.text.now token.kind) (setting_of token.modifiers work (cursor c)) s (arguments c.args)
+pub effect_here : (c : Cursor) (token : Token) (work : Option Work) (opens before : Bool) (s : State) → IsStepIn c.text.bytes.now token
+    → (looks_around token.kind ≡ true → opens ≡ inside_iteration (cursor c).blocks) → (looks_around token.kind ≡ true → before ≡ leave_is_next (scan c.text.profile (cursor c).left))
+    → token_effect c.text.bytes.now token (record { work = work; inside = opens; before = before }) s (arguments c.args) ≡ effect (item_of_kind c.text.bytes.now token.kind) (setting_of c.text.profile token.modifiers work (cursor c)) s (arguments c.args)
 effect_here c token work opens before s =
-    by_kind c.text.now (record { modifiers = token.modifiers; work = work; inside = opens; before = before }) (inside_iteration (cursor c).blocks) (leave_is_next (scan (cursor c).left)) s (arguments c.args) token.kind
+    by_kind c.text.bytes.now (record { modifiers = token.modifiers; work = work; inside = opens; before = before }) (inside_iteration (cursor c).blocks) (leave_is_next (scan c.text.profile (cursor c).left)) s (arguments c.args) token.kind
 
 -- how the text goes on after a step
 module _ (callers : List Caller) (now : Now) where
   abbrev pub here_in : Cursor → Config
-  here_in c = config c.text.now (cursor c) None callers now
+  here_in c = config c.text.profile c.text.bytes.now (cursor c) None callers now
 
   pub ends_so : (s : State) (c : Cursor) (token : Token) (n k : Next) (d : Reached) → n ≡ k
-      → Comes (ready_of (after_step_end token.modifiers (item_of_kind c.text.now token.kind) (end_of s (name_in c.text.now token) k) (here_in c))) now d
-      → Comes (ready_of (after_step_end token.modifiers (item_of_kind c.text.now token.kind) (end_of s (name_in c.text.now token) n) (here_in c))) now d
-  ends_so s c token n k d e h = subst (λ x. Comes (ready_of (after_step_end token.modifiers (item_of_kind c.text.now token.kind) (end_of s (name_in c.text.now token) x) (here_in c))) now d) (sym e) h
+      → Comes (ready_of (after_step_end token.modifiers (item_of_kind c.text.bytes.now token.kind) (end_of s (name_in c.text.bytes.now token) k) (here_in c))) now d
+      → Comes (ready_of (after_step_end token.modifiers (item_of_kind c.text.bytes.now token.kind) (end_of s (name_in c.text.bytes.now token) n) (here_in c))) now d
+  ends_so s c token n k d e h = subst (λ x. Comes (ready_of (after_step_end token.modifiers (item_of_kind c.text.bytes.now token.kind) (end_of s (name_in c.text.bytes.now token) x) (here_in c))) now d) (sym e) h
 
   pub is_over : (c : Cursor) (code : Option Code) → Comes (ready_of (halts (here_in c) code)) now (over code)
   is_over c code = record { runs = λ fuel. sym (run_ready fuel (halts (here_in c) code)) ∙ halted fuel (here_in c) code; nowhere = halts_nowhere (here_in c) code }
@@ -88,7 +88,7 @@ module _ (callers : List Caller) (now : Now) where
   moves_on old to text (Ok done) f is m e =
       subst (λ x. Comes (ready_of (runs_or_halts (here_in old) m)) now (reached_by_flow to callers x)) (sym is)
       (alike (ap (λ x. ready_of (runs_or_halts (here_in old) x)) (sym e)
-      ∙ ap (λ t. ready_of (runs (config t.now (cursor to) None callers now))) (sym text)))
+      ∙ ap (λ t. ready_of (runs (config t.profile t.bytes.now (cursor to) None callers now))) (sym text)))
   moves_on old to text (Err code) f is m e =
       subst (λ x. Comes (ready_of (runs_or_halts (here_in old) m)) now (reached_by_flow to callers x)) (sym is)
       (subst (λ x. Comes (ready_of (runs_or_halts (here_in old) x)) now (over (Some code))) e (is_over old (Some code)))
@@ -109,22 +109,22 @@ unless_finishes (Err code) f is h = subst FlowFinishes (sym is) h
 module _ (c : Cursor) (token : Token) (work : Option Work) (callers : List Caller) where
   -- where it has left these arguments, and ended so
   abbrev pub after_token : Arguments → End → Continuation
-  after_token a e now = ready_of (after_step_end token.modifiers (item_of_kind c.text.now token.kind) e (config c.text.now (record (cursor c) { args = a }) None callers now))
+  after_token a e now = ready_of (after_step_end token.modifiers (item_of_kind c.text.bytes.now token.kind) e (config c.text.profile c.text.bytes.now (record (cursor c) { args = a }) None callers now))
 
   after_stays : (a : Arguments) (e : End) (now : Now) → Stays (after_token a e) now
   after_stays a e now =
-      let to : Config = config c.text.now (record (cursor c) { args = a }) None callers now in
-      arrives_stays (after_step_end token.modifiers (item_of_kind c.text.now token.kind) e to) ∙ resumed_now token.modifiers (item_of_kind c.text.now token.kind) e to
+      let to : Config = config c.text.profile c.text.bytes.now (record (cursor c) { args = a }) None callers now in
+      arrives_stays (after_step_end token.modifiers (item_of_kind c.text.bytes.now token.kind) e to) ∙ resumed_now token.modifiers (item_of_kind c.text.bytes.now token.kind) e to
 
-  module _ (opens before : Bool) (is : IsStepIn c.text.now token) (looks : looks_around token.kind ≡ true → opens ≡ inside_iteration (cursor c).blocks) (sees : looks_around token.kind ≡ true → before ≡ leave_is_next (scan (cursor c).left)) where
+  module _ (opens before : Bool) (is : IsStepIn c.text.bytes.now token) (looks : looks_around token.kind ≡ true → opens ≡ inside_iteration (cursor c).blocks) (sees : looks_around token.kind ≡ true → before ≡ leave_is_next (scan c.text.profile (cursor c).left)) where
     abbrev pub effect_in : State → Step
-    effect_in s = token_effect c.text.now token (record { work = work; inside = opens; before = before }) s (arguments c.args)
+    effect_in s = token_effect c.text.bytes.now token (record { work = work; inside = opens; before = before }) s (arguments c.args)
 
     token_pays : (s : State) → Pays (at_token c token work callers) (after_token (effect_in s).arguments (effect_in s).end) s (effect_in s).state (effect_in s).typed (effect_in s).load
     token_pays s now same = record {
-      machine = after_token_step token.modifiers (item_of_kind c.text.now token.kind) work (config c.text.now (cursor c) None callers now);
+      machine = after_token_step token.modifiers (item_of_kind c.text.bytes.now token.kind) work (config c.text.profile c.text.bytes.now (cursor c) None callers now);
       comes = refl;
-      leads = ap (λ x. (let d : Step = effect (item_of_kind c.text.now token.kind) (setting_of token.modifiers work (cursor c)) x (arguments c.args) in after_token d.arguments d.end (advanced d.state d.typed d.load now))) same
+      leads = ap (λ x. (let d : Step = effect (item_of_kind c.text.bytes.now token.kind) (setting_of c.text.profile token.modifiers work (cursor c)) x (arguments c.args) in after_token d.arguments d.end (advanced d.state d.typed d.load now))) same
           ∙ ap (λ (d : Step). after_token d.arguments d.end (advanced d.state d.typed d.load now)) (sym (effect_here c token work opens before s is looks sees));
     }
 
@@ -164,7 +164,7 @@ module _ (c : Cursor) (token : Token) (work : Option Work) (callers : List Calle
           → (steps : ℕ) → steps ≡ h.steps + 1 → (same : State) → same ≡ new → (H : Trail → Type 0)
           → ((u : Trail) → G u → u.changes ≤ most_changes → steps ≡ u.steps + 1 → u.states steps ≡ new → u.load ≤ u.loads steps → H (stepped u))
           → (d : Reached) → EndsByItself d
-          → ((now : Now) → Comes (ready_of (after_step_end token.modifiers (item_of_kind c.text.now token.kind) (end_of new name n) (config c.text.now (record (cursor c) { args = arguments args }) None callers now))) now d)
+          → ((now : Now) → Comes (ready_of (after_step_end token.modifiers (item_of_kind c.text.bytes.now token.kind) (end_of new name n) (config c.text.profile c.text.bytes.now (record (cursor c) { args = arguments args }) None callers now))) now d)
           → Reaches limit o h (host_of same H w steps) d
       token_goes f did steps count same is_same H marks d fin leads =
           let e = effect_in h.state in
@@ -181,12 +181,12 @@ module _ (c : Cursor) (token : Token) (work : Option Work) (callers : List Calle
 module _ (c : Cursor) (b : BlockStep) (to : ℕ) (callers : List Caller) where
   -- where it has been done
   abbrev after_block : Continuation
-  after_block now = ready_of (runs_or_halts (config c.text.now (cursor c) None callers now) (after_block_step (block_step_of b) (drop to c.text.now) (cursor c)))
+  after_block now = ready_of (runs_or_halts (config c.text.profile c.text.bytes.now (cursor c) None callers now) (after_block_step c.text.profile (block_step_of b) (drop to c.text.bytes.now) (cursor c)))
 
   block_stays : (now : Now) → Stays after_block now
   block_stays now =
-      let there : Config = config c.text.now (cursor c) None callers now in
-      let m : CursorOrError = after_block_step (block_step_of b) (drop to c.text.now) (cursor c) in
+      let there : Config = config c.text.profile c.text.bytes.now (cursor c) None callers now in
+      let m : CursorOrError = after_block_step c.text.profile (block_step_of b) (drop to c.text.bytes.now) (cursor c) in
       arrives_stays (runs_or_halts there m) ∙ going_now there m
 
   still : (s : State) (now : Now) → now.state ≡ s → now ≡ advanced s [] 0 now
@@ -196,7 +196,7 @@ module _ (c : Cursor) (b : BlockStep) (to : ℕ) (callers : List Caller) where
 
   block_pays : (s : State) → Pays (at_block_step c b to callers) after_block s s [] 0
   block_pays s now same = record {
-    machine = runs_or_halts (config c.text.now (cursor c) None callers now) (after_block_step (block_step_of b) (drop to c.text.now) (cursor c));
+    machine = runs_or_halts (config c.text.profile c.text.bytes.now (cursor c) None callers now) (after_block_step c.text.profile (block_step_of b) (drop to c.text.bytes.now) (cursor c));
     comes = refl;
     leads = ap after_block (still s now same);
   }
@@ -205,7 +205,7 @@ module _ (c : Cursor) (b : BlockStep) (to : ℕ) (callers : List Caller) where
       → (steps : ℕ) → steps ≡ h.steps + 1 → (same : State) → same ≡ h.state → (G : Trail → Type 0) → ((u : Trail) → h.follows u → h.follows (moved u 0))
       → ((u : Trail) → h.follows u → u.changes ≤ most_changes → steps ≡ u.steps + 1 → u.states steps ≡ h.state → u.load ≤ u.loads steps → G (stepped u))
       → (d : Reached) → EndsByItself d
-      → ((now : Now) → Comes (ready_of (runs_or_halts (config c.text.now (cursor c) None callers now) (after_block_step (block_step_of b) (drop to c.text.now) (cursor c)))) now d)
+      → ((now : Now) → Comes (ready_of (runs_or_halts (config c.text.profile c.text.bytes.now (cursor c) None callers now) (after_block_step c.text.profile (block_step_of b) (drop to c.text.bytes.now) (cursor c)))) now d)
       → Reaches limit o h (host_of same G h.screen steps) d
   block_leads o h g limit lt steps count same is_same G eases marks d fin leads =
       let later : Host = host_of same G h.screen steps in
@@ -278,7 +278,7 @@ counts_over {q = q} {a = a} {b = b} on is same low broken = record {
 
 -- A token has a further step.
 abbrev further_config : List Caller → Now → Cursor → Token → Work → Config
-further_config callers now c token work = config c.text.now (cursor c) (Some (record { modifiers = token.modifiers; item = item_of_kind c.text.now token.kind; work = work })) callers now
+further_config callers now c token work = config c.text.profile c.text.bytes.now (cursor c) (Some (record { modifiers = token.modifiers; item = item_of_kind c.text.bytes.now token.kind; work = work })) callers now
 
 further_runs : (callers : List Caller) (now : Now) (c : Cursor) (token : Token) (work : Work) (fuel : ℕ) → ready_run fuel (ready_of (runs (further_config callers now c token work))) ≡ ready_run fuel (at_token c token (Some work) callers now)
 unfolding ready_of ready_within
@@ -314,21 +314,21 @@ never_calls laws text token work opens before s a name old new n is none (inr (i
 
 -- A step of a token that calls is the step of the call of its register.
 plain_call : (c : Cursor) (token : Token) (work : Option Work) (q : ℕ) (callers : List Caller) (now : Now) (fuel : ℕ)
-    → ready_run fuel (step token.modifiers (items.register register_command.Macro q) work (config c.text.now (cursor c) None callers now)) ≡ ready_run fuel (at_register_call c q callers now)
+    → ready_run fuel (step token.modifiers (items.register register_command.Macro q) work (config c.text.profile c.text.bytes.now (cursor c) None callers now)) ≡ ready_run fuel (at_register_call c q callers now)
 unfolding effect
 plain_call c token work q callers now zero = refl
 plain_call c token work q callers now (suc fuel) = refl
 
 -- and stands at the same place
 stands_same : (c : Cursor) (token : Token) (work : Option Work) (q : ℕ) (callers : List Caller) (now : Now)
-    → sight (step token.modifiers (items.register register_command.Macro q) work (config c.text.now (cursor c) None callers now)) ≡ sight (at_register_call c q callers now)
+    → sight (step token.modifiers (items.register register_command.Macro q) work (config c.text.profile c.text.bytes.now (cursor c) None callers now)) ≡ sight (at_register_call c q callers now)
 unfolding effect
 stands_same c token work q callers now = refl
 
 pub calls_same : (c : Cursor) (token : Token) (work : Option Work) (q : ℕ) (callers : List Caller) (now : Now) → token.kind ≡ call_of q
     → Alike (at_token c token work callers now) (at_register_call c q callers now)
 calls_same c token work q callers now is =
-    also (alike (ap (λ k. step token.modifiers (item_of_kind c.text.now k) work (config c.text.now (cursor c) None callers now)) is))
+    also (alike (ap (λ k. step token.modifiers (item_of_kind c.text.bytes.now k) work (config c.text.profile c.text.bytes.now (cursor c) None callers now)) is))
     (record { runs = plain_call c token work q callers now; stands = stands_same c token work q callers now })
 
 -- a step that calls the text of a register
@@ -339,14 +339,14 @@ module _ (c : Cursor) (q : ℕ) (callers : List Caller) where
   call_pays : (s : State) → Pays (at_register_call c q callers) (at_call c (text_in s) callers) s s [] 0
   unfolding effect
   call_pays s now same = record {
-    machine = after_token_step (record { at = false; colons = 0 }) (items.register register_command.Macro q) None (config c.text.now (cursor c) None callers now);
+    machine = after_token_step (record { at = false; colons = 0 }) (items.register register_command.Macro q) None (config c.text.profile c.text.bytes.now (cursor c) None callers now);
     comes = refl;
     leads = ap (λ x. at_call c (text_in x) callers (advanced x [] 0 now)) same;
   }
 
   call_stays : (text : List ℕ) (now : Now) → Stays (at_call c text callers) now
   call_stays text now =
-      let here : Config = config c.text.now (cursor c) None callers now in
+      let here : Config = config c.text.profile c.text.bytes.now (cursor c) None callers now in
       let m : Modifiers = record { at = false; colons = 0 } in
       arrives_stays (in_called_text text here) ∙ resumed_now m (items.register register_command.Macro q) (call text) here
 

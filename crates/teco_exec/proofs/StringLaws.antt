@@ -145,8 +145,8 @@ module _ (k : Bool) where
   module _ (only : OnlyExits) where
     pays_stays : (r : Ready) → Waits k r → Stays k (after_paid_step r)
     pays_stays (step m i work c) p =
-        resumed_stays m i (effect i (setting_of m work c.at) c.state c.at.args).end _ (λ going. only i (setting_of m work c.at) c.state c.at.args going ∙ p)
-    pays_stays (block b bs c) p = stays (after_paid_step (block b bs c)) (ap (λ (x : Now). x.state.is_done) (going_now c (after_block_step b bs c.at)) ∙ p)
+        resumed_stays m i (effect i (setting_of c.profile m work c.at) c.state c.at.args).end _ (λ going. only i (setting_of c.profile m work c.at) c.state c.at.args going ∙ p)
+    pays_stays (block b bs c) p = stays (after_paid_step (block b bs c)) (ap (λ (x : Now). x.state.is_done) (going_now c (after_block_step c.profile b bs c.at)) ∙ p)
     pays_stays (faulty c e) p = p
     pays_stays (finished c e) p = p
 

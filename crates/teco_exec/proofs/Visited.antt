@@ -1,5 +1,6 @@
 -- Where a run stood before each step that it did, as a watch is told it.
 use Rattle.std.proofs.Common.{◌≡◌, ◌⊎◌, inl, inr, is_some, ℕ, suc, ◌≤◌, ◌<◌, List, [], ◌∷◌, length, true, false, Option, Some, None, refl, sym, ap, subst, ◌∙◌, arith, ltb, max}
+use Rattle.teco_core.specs.declared.profile.Profile.{Profile}
 use Rattle.teco_scan.specs.Breaks.{IsTokenPlace}
 use Rattle.teco_exec.specs.Machine.{Caller}
 use Rattle.teco_exec.specs.Places.{CallToken, HaveCalled, IsCallOf, IsReadAt, Told, call_token, open_turns, IsVisit, Wanted, StoodThrough, NoneIsWanted, IsFirstWanted, FindsWanted}
@@ -10,68 +11,77 @@ use Rattle.teco_exec.proofs.Placings.{has_place, lands, read_on, stopped_place, 
 use Rattle.teco_exec.proofs.Stepped.{up_to}
 
 -- as many calls are told as texts have called
-pub as_many_calls : (xs : List CallToken) (callers : List Caller) → HaveCalled xs callers [] → length xs ≡ length callers
+pub as_many_calls : (p : Profile) (xs : List CallToken) (callers : List Caller) → HaveCalled p xs callers [] → length xs ≡ length callers
 unfolding HaveCalled
-as_many_calls [] callers h = ap length (sym h)
-as_many_calls (x ∷ xs) [] h = absurd h
-as_many_calls (x ∷ xs) (b ∷ callers) h = ap suc (as_many_calls xs callers h.1)
+as_many_calls p [] callers h = ap length (sym h)
+as_many_calls p (x ∷ xs) [] h = absurd h
+as_many_calls p (x ∷ xs) (b ∷ callers) h = ap suc (as_many_calls p xs callers h.1)
 
 -- One call more is open.
-pub one_call_more : (b : Caller) (callers : List Caller) (x : CallToken) (xs : List CallToken) → IsCallOf b x → HaveCalled xs callers [] → HaveCalled (x ∷ xs) (b ∷ callers) []
+pub one_call_more : (p : Profile) (b : Caller) (callers : List Caller) (x : CallToken) (xs : List CallToken) → IsCallOf p b x → HaveCalled p xs callers [] → HaveCalled p (x ∷ xs) (b ∷ callers) []
 unfolding HaveCalled
-one_call_more b callers x xs is h = (is, h)
+one_call_more p b callers x xs is h = (is, h)
 
-pub no_call_open : HaveCalled [] [] []
+pub no_call_open : (p : Profile) → HaveCalled p [] [] []
 unfolding HaveCalled
-no_call_open = refl
+no_call_open p = refl
 
 -- a call that is made at a place
-pub call_made : (c : Cursor) (q at : ℕ) → at ≤ length c.text.now → IsReadAt c.text.now at (Some (call_token q)) (cursor c).left → (x : CallToken) × IsCallOf (caller c) x
+pub call_made : (c : Cursor) (q at : ℕ) → at ≤ length c.text.bytes.now → IsReadAt c.text.profile c.text.bytes.now at (Some (call_token q)) (cursor c).left → (x : CallToken) × IsCallOf c.text.profile (caller c) x
 call_made c q at within read =
-    let place = has_place c.text.now at within in (
+    let place = has_place c.text.bytes.now at within in (
       record { register = q; at = place.0; turns = open_turns (cursor c).blocks },
-      record { here = lands c.text.now at place.0 place.1; read = read_on c.text.now at place.0 (Some (call_token q)) (cursor c).left place.1 read; turns = refl },
+      record { here = lands c.text.bytes.now at place.0 place.1; read = read_on c.text.profile c.text.bytes.now at place.0 (Some (call_token q)) (cursor c).left place.1 read; turns = refl },
     )
 
 abbrev told_with : ℕ → Cursor → ℕ → List CallToken → Told
-told_with k c to xs = record { steps = k; text = c.text.now; at = to; turns = open_turns (cursor c).blocks; calls = xs }
+told_with k c to xs = record { profile = c.text.profile; steps = k; text = c.text.bytes.now; at = to; turns = open_turns (cursor c).blocks; calls = xs }
 
-module _ (o : Origin) (c : Cursor) (callers : List Caller) (xs : List CallToken) (called : HaveCalled xs callers []) (k depth : ℕ) (deep : length callers ≡ depth) where
+module _ (o : Origin) (c : Cursor) (callers : List Caller) (xs : List CallToken) (called : HaveCalled c.text.profile xs callers []) (k depth : ℕ) (deep : length callers ≡ depth) where
   -- Where a run stands, that is a visit of that place.
   visited_so : (to : ℕ) → StandsWhereTold o [] (told_with k c to xs) → IsVisit o.state o.text k depth to
   visited_so to w = record {
     told = told_with k c to xs;
     stood = stopped_place o k (told_with k c to xs) w refl;
     steps_are = refl;
-    calls_are = as_many_calls xs callers called ∙ deep;
+    calls_are = as_many_calls c.text.profile xs callers called ∙ deep;
     at_is = refl;
   }
 
   -- before a step at a cursor
-  pub visited_at : (new : Cursor) (to : ℕ) → new.text ≡ c.text → StandsSomewhere o k c callers → IsTokenPlace new.text.now c.at to → IsVisit o.state o.text k depth to
+  pub visited_at : (new : Cursor) (to : ℕ) → new.text ≡ c.text → StandsSomewhere o k c callers → IsTokenPlace new.text.bytes.now c.at to → IsVisit o.state o.text k depth to
   visited_at new to text w place =
-      let here : IsTokenPlace c.text.now c.at to = subst (λ t. IsTokenPlace t.now c.at to) text place in
+      let here : IsTokenPlace c.text.bytes.now c.at to = subst (λ t. IsTokenPlace t.bytes.now c.at to) text place in
       visited_so to (record {
         there = w.there;
         stands = w.stands;
         told = record {
+          profile = sym w.is.profile;
           text = sym w.is.text;
-          here = subst (λ t. IsTokenPlace t to to) (sym w.is.text) (lands c.text.now c.at to here);
-          read = subst (λ t. IsReadAt t to w.there.token w.there.left) (sym w.is.text) (read_on c.text.now c.at to w.there.token w.there.left here w.is.read);
+          here = subst (λ t. IsTokenPlace t to to) (sym w.is.text) (lands c.text.bytes.now c.at to here);
+          read = subst (λ p. IsReadAt p w.there.text to w.there.token w.there.left) (sym w.is.profile)
+              (subst (λ t. IsReadAt c.text.profile t to w.there.token w.there.left) (sym w.is.text) (read_on c.text.profile c.text.bytes.now c.at to w.there.token w.there.left here w.is.read));
           turns = ap open_turns (sym w.is.blocks);
-          calls = subst (λ cs. HaveCalled xs cs []) (sym w.is.callers) called;
+          calls = subst (λ p. HaveCalled p xs w.there.callers []) (sym w.is.profile) (subst (λ cs. HaveCalled c.text.profile xs cs []) (sym w.is.callers) called);
         };
       })
 
   -- and before a step that calls
-  pub visited_call : (h : Host) (q at to : ℕ) → k ≡ h.steps → RunGoesOn o h (at_register_call c q callers) → IsReadAt c.text.now at (Some (call_token q)) (cursor c).left → IsTokenPlace c.text.now at to → IsVisit o.state o.text k depth to
+  pub visited_call : (h : Host) (q at to : ℕ) → k ≡ h.steps → RunGoesOn o h (at_register_call c q callers) → IsReadAt c.text.profile c.text.bytes.now at (Some (call_token q)) (cursor c).left → IsTokenPlace c.text.bytes.now at to → IsVisit o.state o.text k depth to
   unfolding HaveCalled
   visited_call h q at to same g read place =
       let w = call_told_here o h c q at to k callers same g read place in
       visited_so to (record {
         there = w.there;
         stands = w.stands;
-        told = record { text = w.told.text; here = w.told.here; read = w.told.read; turns = w.told.turns; calls = subst (λ cs. HaveCalled xs cs []) (sym w.told.calls) called };
+        told = record {
+          profile = w.told.profile;
+          text = w.told.text;
+          here = w.told.here;
+          read = w.told.read;
+          turns = w.told.turns;
+          calls = subst (λ p. HaveCalled p xs w.there.callers []) w.told.profile (subst (λ cs. HaveCalled c.text.profile xs cs []) (sym w.told.calls) called);
+        };
       })
 
 -- What is sought in more steps of a run: none of them is wanted, or the first of them that may be is.

@@ -1,9 +1,10 @@
--- Where a text is, and its moves: what uses no step, steps of blocks, jumps and leaving.
+-- Where a text is, and its moves, in the profile that it is read in: what uses no step, steps of blocks, jumps and leaving.
 use Rattle.std.specs.Prelude.{Bool, true, false, ℕ, zero, suc, List, [], ◌∷◌, length, Option, Some, None, ◌==◌, ℤ, Result, Ok, Err, if◌then◌else◌}
 use Rattle.teco_core.specs.declared.code.Code.{Code}
 use Rattle.teco_core.specs.declared.code.Code.TheVariants as code
 use Rattle.teco_core.specs.declared.arguments.Taken.{Taken}
 use Rattle.teco_core.specs.declared.arguments.Taken.TheVariants as taken
+use Rattle.teco_core.specs.declared.profile.Profile.{Profile}
 use Rattle.teco_core.specs.Arguments.{Arguments, no_arguments, taken_from}
 use Rattle.teco_core.specs.declared.limits.TheConstants.{BLOCK_LIMIT}
 use Rattle.teco_scan.specs.declared.command.Modifiers.{Modifiers}
@@ -102,12 +103,12 @@ pass_turn_end bs [] = fault_comes code.Bni
 pass_turn_end bs (b ∷ outer) = elim b.kind [ Iter ↦ block_comes ends_turn bs | _ ↦ fault_comes code.Bni ]
 
 -- At the `|` after a first part that was run: the second part is passed over.
-abbrev pub pass_divider : List ℕ → List Frame → Coming
-pass_divider bs [] = fault_comes code.Ill
-pass_divider bs (b ∷ outer) =
+abbrev pub pass_divider : Profile → List ℕ → List Frame → Coming
+pass_divider p bs [] = fault_comes code.Ill
+pass_divider p bs (b ∷ outer) =
     elim b.kind [
       | Then ↦ passed_or_fault
-          (after_skip (past (list_at (Some Else) (suc (length outer)) bs).1) (after_block_end bs outer))
+          (after_skip (past (list_at p (Some Else) (suc (length outer)) bs).1) (after_block_end bs outer))
       | _ ↦ fault_comes code.Ill
     ]
 
@@ -118,40 +119,40 @@ pass_part_end bs (b ∷ outer) =
     elim b.kind [ Iter ↦ fault_comes code.Ill | _ ↦ passed_to (after_block_end bs outer) ]
 
 -- a mark, an instruction, and what was read: each is passed, or tells what comes
-abbrev pub pass_mark : BlockMark → List ℕ → Cursor → Coming
-pass_mark Iterate bs c = pass_opening iterates bs c
-pass_mark EndIteration bs c = pass_turn_end bs c.blocks
-pass_mark Otherwise bs c = pass_divider bs c.blocks
-pass_mark EndTest bs c = pass_part_end bs c.blocks
+abbrev pub pass_mark : Profile → BlockMark → List ℕ → Cursor → Coming
+pass_mark p Iterate bs c = pass_opening iterates bs c
+pass_mark p EndIteration bs c = pass_turn_end bs c.blocks
+pass_mark p Otherwise bs c = pass_divider p bs c.blocks
+pass_mark p EndTest bs c = pass_part_end bs c.blocks
 
-abbrev pub pass_instruction : Modifiers → Instruction → List ℕ → Cursor → Coming
-pass_instruction m (token.step i) bs c = step_comes m i (record c { left = bs })
-pass_instruction m (token.mark b) bs c = pass_mark b bs c
-pass_instruction m (token.decide t) bs c = pass_opening (decides t) bs c
-pass_instruction m (token.tag name) bs c = passed_to (record c { left = bs })
-pass_instruction m token.escape bs c = passed_to (record c { args = no_arguments; left = bs })
+abbrev pub pass_instruction : Profile → Modifiers → Instruction → List ℕ → Cursor → Coming
+pass_instruction p m (token.step i) bs c = step_comes m i (record c { left = bs })
+pass_instruction p m (token.mark b) bs c = pass_mark p b bs c
+pass_instruction p m (token.decide t) bs c = pass_opening (decides t) bs c
+pass_instruction p m (token.tag name) bs c = passed_to (record c { left = bs })
+pass_instruction p m token.escape bs c = passed_to (record c { args = no_arguments; left = bs })
 
-abbrev pub pass_scanned : Scanned → Cursor → Coming
-pass_scanned ended c = pass_text_end c.blocks
-pass_scanned (fault e) c = fault_comes e
-pass_scanned (found t bs) c = pass_instruction t.modifiers t.instruction bs c
+abbrev pub pass_scanned : Profile → Scanned → Cursor → Coming
+pass_scanned p ended c = pass_text_end c.blocks
+pass_scanned p (fault e) c = fault_comes e
+pass_scanned p (found t bs) c = pass_instruction p t.modifiers t.instruction bs c
 
 -- one token that uses no step is passed, or is what comes
-abbrev pub pass : Cursor → Coming
-pass c = pass_scanned (scan c.left) c
+abbrev pub pass : Profile → Cursor → Coming
+pass p c = pass_scanned p (scan p c.left) c
 
 -- after the start of an iteration of so many turns: inside its block, or after it where there are none
-abbrev pub after_counted_start : ℕ → List ℕ → Cursor → CursorOrError
-after_counted_start zero bs c = after_skip (past (list_at (Some Iter) (suc (length c.blocks)) bs).1) c
-after_counted_start (suc n) bs c = Ok (inside_block Iter (Some n) bs c)
+abbrev pub after_counted_start : Profile → ℕ → List ℕ → Cursor → CursorOrError
+after_counted_start p zero bs c = after_skip (past (list_at p (Some Iter) (suc (length c.blocks)) bs).1) c
+after_counted_start p (suc n) bs c = Ok (inside_block Iter (Some n) bs c)
 
 -- An iteration starts: without end where it takes nothing, and not at all where its number is at most 0.
-abbrev pub after_iteration_start : Result Taken Code → List ℕ → Cursor → CursorOrError
-after_iteration_start (Ok taken.None) bs c = Ok (inside_block Iter None bs (record c { args = no_arguments }))
-after_iteration_start (Ok (taken.One n)) bs c =
-    after_counted_start (turns_of n) bs (record c { args = no_arguments })
-after_iteration_start (Ok (taken.Two m n)) bs c = Err code.Arg
-after_iteration_start (Err e) bs c = Err e
+abbrev pub after_iteration_start : Profile → Result Taken Code → List ℕ → Cursor → CursorOrError
+after_iteration_start p (Ok taken.None) bs c = Ok (inside_block Iter None bs (record c { args = no_arguments }))
+after_iteration_start p (Ok (taken.One n)) bs c =
+    after_counted_start p (turns_of n) bs (record c { args = no_arguments })
+after_iteration_start p (Ok (taken.Two m n)) bs c = Err code.Arg
+after_iteration_start p (Err e) bs c = Err e
 
 -- the beginning of the next turn, or the end of the iteration where no turn is left
 abbrev pub next_turn_or_end : Option ℕ → Frame → List Frame → List ℕ → Cursor
@@ -179,20 +180,20 @@ inside_second_part (closed false bs) c = Ok (record c { left = bs })
 inside_second_part (broken e) c = Err e
 
 -- The first part, which the test does not choose, is passed over.
-abbrev pub after_first_part : List ℕ → Cursor → CursorOrError
-after_first_part bs c = inside_second_part (list_at (Some Then) (suc (length c.blocks)) bs).1 c
+abbrev pub after_first_part : Profile → List ℕ → Cursor → CursorOrError
+after_first_part p bs c = inside_second_part (list_at p (Some Then) (suc (length c.blocks)) bs).1 c
 
 -- A conditional starts: the part that its test chooses is run.
-abbrev pub inside_chosen_part : Test → Result ℤ Code → List ℕ → Cursor → CursorOrError
-inside_chosen_part t (Ok n) bs c = let d : Cursor = record c { args = no_arguments } in
-    if holds t n then Ok (inside_block Then None bs d) else after_first_part bs d
-inside_chosen_part t (Err e) bs c = Err e
+abbrev pub inside_chosen_part : Profile → Test → Result ℤ Code → List ℕ → Cursor → CursorOrError
+inside_chosen_part p t (Ok n) bs c = let d : Cursor = record c { args = no_arguments } in
+    if holds t n then Ok (inside_block Then None bs d) else after_first_part p bs d
+inside_chosen_part p t (Err e) bs c = Err e
 
 -- after a step of a block
-abbrev pub after_block_step : BlockStep → List ℕ → Cursor → CursorOrError
-after_block_step iterates bs c = after_iteration_start (taken_from c.args) bs c
-after_block_step ends_turn bs c = after_turn_end bs c
-after_block_step (decides t) bs c = inside_chosen_part t (takes_one code.Naq c.args) bs c
+abbrev pub after_block_step : Profile → BlockStep → List ℕ → Cursor → CursorOrError
+after_block_step p iterates bs c = after_iteration_start p (taken_from c.args) bs c
+after_block_step p ends_turn bs c = after_turn_end bs c
+after_block_step p (decides t) bs c = inside_chosen_part p t (takes_one code.Naq c.args) bs c
 
 -- One block is left: an iteration is the last one, and what is around a conditional is left too.
 abbrev pub after_leaving_block : (Cursor → CursorOrError) → Kind → Arguments → List Frame
@@ -202,11 +203,11 @@ after_leaving_block on_ k a outer (Ok bs) = on_ (record { args = a; left = bs; b
 after_leaving_block on_ k a outer (Err e) = Err e
 
 -- The innermost iteration is left; SNI where none is open.
-unfoldable pub after_leaving_iteration : List Frame → Arguments → List ℕ → CursorOrError
-after_leaving_iteration [] a bs = Err code.Sni
-after_leaving_iteration (b ∷ outer) a bs =
-    after_leaving_block (λ c. after_leaving_iteration outer c.args c.left) b.kind a outer
-    (behind_block list_at b.kind (suc (length outer)) (list_at (Some b.kind) (suc (length outer)) bs).1)
+unfoldable pub after_leaving_iteration : Profile → List Frame → Arguments → List ℕ → CursorOrError
+after_leaving_iteration p [] a bs = Err code.Sni
+after_leaving_iteration p (b ∷ outer) a bs =
+    after_leaving_block (λ c. after_leaving_iteration p outer c.args c.left) b.kind a outer
+    (behind_block (list_at p) b.kind (suc (length outer)) (list_at p (Some b.kind) (suc (length outer)) bs).1)
 
 -- after a tag that was found, or else this
 abbrev pub after_tag_or : Option (List ℕ) → Arguments → List Frame → CursorOrError → CursorOrError
@@ -214,7 +215,7 @@ after_tag_or (Some bs) a blocks on_ = Ok (record { args = a; left = bs; blocks =
 after_tag_or None a blocks on_ = on_
 
 -- A jump goes on after the first such tag directly in the innermost list that has one; TAG where none has.
-unfoldable pub after_jump : List ℕ → List ℕ → List Frame → Arguments → CursorOrError
-after_jump name text [] a = after_tag_or (tag_at name 0 text) a [] (Err code.Tag)
-after_jump name text (b ∷ outer) a =
-    after_tag_or (tag_at name (suc (length outer)) b.start) a (b ∷ outer) (after_jump name text outer a)
+unfoldable pub after_jump : Profile → List ℕ → List ℕ → List Frame → Arguments → CursorOrError
+after_jump p name text [] a = after_tag_or (tag_at p name 0 text) a [] (Err code.Tag)
+after_jump p name text (b ∷ outer) a =
+    after_tag_or (tag_at p name (suc (length outer)) b.start) a (b ∷ outer) (after_jump p name text outer a)

@@ -81,7 +81,7 @@ comes_to whole rest i setting depth w (go name) =
 comes_to whole rest i setting depth w (call text) =
     if depth == CALL_LIMIT
     then (w, stop code.Pdo)
-    else and_then (and_then (meaning.list (nodes text) (nodes text) w (depth + 1) false) after_call)
+    else and_then (and_then (meaning.list (nodes w.profile text) (nodes w.profile text) w (depth + 1) false) after_call)
     (then_rest meaning whole rest depth setting.inside)
 comes_to whole rest i setting depth w out = (w, out)
 comes_to whole rest i setting depth w (again work) =
@@ -121,7 +121,7 @@ module _ (whole rest : Nodes) (m : Modifiers) (i : Item) (w : World) (depth n : 
     -- A call runs the text with the same arguments, one deeper and inside no iteration. If the text ends well,
     -- the calling list goes on with what it left.
     pub returns : (text : List ℕ) (v : World) → ends ≡ call text → depth ≢ CALL_LIMIT
-        → meaning.list (nodes text) (nodes text) left (depth + 1) false ≡ (v, on)
+        → meaning.list (nodes left.profile text) (nodes left.profile text) left (depth + 1) false ≡ (v, on)
         → here ≡ meaning.list whole rest v depth inside
     -- A call inside CALL_LIMIT others is PDO.
     pub too_deep : (text : List ℕ) → ends ≡ call text → depth ≡ CALL_LIMIT → here ≡ (left, stop code.Pdo)
@@ -207,6 +207,10 @@ EnoughIsEnough = (s : State) (text : List ℕ) (limit : ℕ)
 abbrev pub LimitsAreReached : Type 0
 LimitsAreReached = (s : State) (text : List ℕ) (limit k : ℕ) → k < (string_meaning s text limit).steps
     → (string_meaning s text k).steps ≡ k
+
+-- No string changes the profile that texts are read in.
+abbrev pub ProfileIsKept : Type 0
+ProfileIsKept = (s : State) (text : List ℕ) (limit : ℕ) → (string_meaning s text limit).state.profile ≡ s.profile
 
 -- Under limit 0 nothing changes: no step is taken, no byte typed, and the state is the one before.
 pub record ChangesNothing (s : State) (m : StringMeaning) : Type 0 where

@@ -3,6 +3,7 @@ use Rattle.std.specs.Prelude.{ℕ, zero, suc, ◌+◌, List, [], ◌∷◌, ◌+
 use Rattle.teco_core.specs.declared.code.Code.{Code}
 use Rattle.teco_core.specs.declared.code.Code.TheVariants as code
 use Rattle.teco_core.specs.Arguments.{no_arguments}
+use Rattle.teco_core.specs.declared.profile.Profile.{Profile}
 use Rattle.teco_core.specs.declared.limits.TheConstants.{CALL_LIMIT}
 use Rattle.teco_scan.specs.declared.command.Modifiers.{Modifiers}
 use Rattle.teco_scan.specs.Scan.{Item, scan}
@@ -25,9 +26,10 @@ pub record Further : Type 0 where
   pub item : Item
   pub work : Work
 
--- the state, the bytes typed and the load so far; the text that runs, where it is, and what called it, the
--- latest first; and a further step
+-- the profile that texts are read in; the state, the bytes typed and the load so far; the text that runs, where it is,
+-- and what called it, the latest first; and a further step
 pub record Config : Type 0 where
+  pub profile : Profile
   pub state : State
   pub typed : List ℕ
   pub load : ℕ
@@ -47,12 +49,12 @@ runs_or_halts c (Ok cur) = runs (record c { at = cur })
 runs_or_halts c (Err e) = halts c (Some e)
 
 -- what a step of a token looks at around it
-abbrev pub setting_of : Modifiers → Option Work → Cursor → Setting
-setting_of m work c = record {
+abbrev pub setting_of : Profile → Modifiers → Option Work → Cursor → Setting
+setting_of p m work c = record {
   modifiers = m;
   work = work;
   inside = inside_iteration c.blocks;
-  before = leave_is_next (scan c.left);
+  before = leave_is_next (scan p c.left);
 }
 
 -- at the beginning of a text that is called, with the same arguments; PDO inside CALL_LIMIT others
@@ -67,8 +69,8 @@ in_called_text text c =
 -- where a step of a token has ended so
 abbrev pub after_step_end : Modifiers → Item → End → Config → Machine
 after_step_end m i on c = runs c
-after_step_end m i leave c = runs_or_halts c (after_leaving_iteration c.at.blocks c.at.args c.at.left)
-after_step_end m i (go name) c = runs_or_halts c (after_jump name c.text c.at.blocks c.at.args)
+after_step_end m i leave c = runs_or_halts c (after_leaving_iteration c.profile c.at.blocks c.at.args c.at.left)
+after_step_end m i (go name) c = runs_or_halts c (after_jump c.profile name c.text c.at.blocks c.at.args)
 after_step_end m i (call text) c = in_called_text text c
 after_step_end m i out c = halts c None
 after_step_end m i (again work) c =
@@ -78,7 +80,7 @@ after_step_end m i (stop e) c = halts c (Some e)
 -- after a step of a token, its first or a further one
 abbrev pub after_token_step : Modifiers → Item → Option Work → Config → Machine
 after_token_step m i work c =
-    let d : Step = effect i (setting_of m work c.at) c.state c.at.args in
+    let d : Step = effect i (setting_of c.profile m work c.at) c.state c.at.args in
     after_step_end m i d.end (record c {
       state = d.state;
       typed = c.typed ++ d.typed;
@@ -115,7 +117,7 @@ ready_where_comes next c (fault_comes e) = faulty c e
 -- what a run is ready for at this moment: a further step of the same token, or what comes
 abbrev pub ready_at : (Machine → Ready) → Config → Option Further → Ready
 ready_at next c (Some f) = step f.modifiers f.item (Some f.work) c
-ready_at next c None = ready_where_comes next c (pass c.at)
+ready_at next c None = ready_where_comes next c (pass c.profile c.at)
 
 -- the same within so many moves
 unfoldable pub ready_within : ℕ → Machine → Ready
@@ -140,7 +142,7 @@ ready_of m = ready_within (suc (bytes_left m)) m
 -- after the step for which a run is ready, which one of the limit pays
 abbrev pub after_paid_step : Ready → Machine
 after_paid_step (step m i work c) = after_token_step m i work c
-after_paid_step (block b bs c) = runs_or_halts c (after_block_step b bs c.at)
+after_paid_step (block b bs c) = runs_or_halts c (after_block_step c.profile b bs c.at)
 after_paid_step (faulty c e) = halts c (Some e)
 after_paid_step (finished c e) = halts c e
 
@@ -180,6 +182,7 @@ after_steps (suc n) m = after_steps n (after_paid_step (ready_of m))
 
 abbrev pub start_config : State → List ℕ → Config
 start_config s text = record {
+  profile = s.profile;
   state = s;
   typed = [];
   load = 0;

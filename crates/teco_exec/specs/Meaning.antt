@@ -50,7 +50,7 @@ abbrev pub run_call : Meaning → List ℕ → World → ℕ → WorldAndEnd
 run_call m text w depth =
     if depth == CALL_LIMIT
     then (w, stop code.Pdo)
-    else and_then (m.list (nodes text) (nodes text) w (depth + 1) false) after_call
+    else and_then (m.list (nodes w.profile text) (nodes w.profile text) w (depth + 1) false) after_call
 
 -- what a token does after a step of it: a call runs its text, and a further step has fuel of its own
 abbrev pub run_after_step : Meaning → Item → Setting → ℕ → World → End → WorldAndEnd

@@ -3,6 +3,7 @@
 use Rattle.std.specs.Prelude.{◌≡◌, ◌<◌, ◌≤◌, ℕ, Bool, true, false, List, [], ◌∷◌, ◌++◌, drop, length, MatchOption, Option, Some, None}
 use Rattle.teco_scan.specs.Scan.{Item, TokenMeaning, found, scan, after_fillers, no_modifiers}
 use Rattle.teco_scan.specs.Scan as token
+use Rattle.teco_core.specs.declared.profile.Profile.{Profile}
 use Rattle.teco_scan.specs.Breaks.{IsTokenPlace}
 use Rattle.teco_scan.specs.declared.blocks.Kind.TheVariants.{Iter, Then, Else}
 use Rattle.teco_scan.specs.declared.command.Modifiers.{Modifiers}
@@ -11,9 +12,10 @@ use Rattle.teco_store.specs.State.{State}
 use Rattle.teco_exec.specs.CursorMoves.{Frame, after_block_step}
 use Rattle.teco_exec.specs.Machine.{Caller, Config, Machine, Ready, step, block, faulty, finished, runs, runs_or_halts, after_token_step, ready_of, after_steps, start_config}
 
--- Where a run stands: its text and the bytes of it that are left, the open blocks, and the callers, the
--- latest first. Where a step of a token comes, the token has been read, and this is its meaning.
+-- Where a run stands: the profile that texts are read in, its text and the bytes of it that are left, the open blocks,
+-- and the callers, the latest first. Where a step of a token comes, the token has been read, and this is its meaning.
 pub record Standing : Type 0 where
+  pub profile : Profile
   pub text : List ℕ
   pub left : List ℕ
   pub blocks : List Frame
@@ -22,7 +24,7 @@ pub record Standing : Type 0 where
 
 abbrev pub standing_of : Option TokenMeaning → Config → Standing
 standing_of token c =
-    record { text = c.text; left = c.at.left; blocks = c.at.blocks; callers = c.callers; token = token }
+    record { profile = c.profile; text = c.text; left = c.at.left; blocks = c.at.blocks; callers = c.callers; token = token }
 
 -- the token of a step, with its modifiers; to a call they mean nothing
 abbrev pub step_token : Modifiers → Item → TokenMeaning
@@ -49,16 +51,16 @@ open_turns (b ∷ bs) =
 
 -- What is read at a place of a text: this token of a step, and then what is left; or, of no token, what is
 -- left, after fillers.
-abbrev pub IsReadAt : List ℕ → ℕ → Option TokenMeaning → List ℕ → Type 0
-IsReadAt text at (Some t) left = (m : Modifiers) × (i : Item)
-    × (scan (drop at text) ≡ found (record { modifiers = m; instruction = token.step i }) left)
+abbrev pub IsReadAt : Profile → List ℕ → ℕ → Option TokenMeaning → List ℕ → Type 0
+IsReadAt p text at (Some t) left = (m : Modifiers) × (i : Item)
+    × (scan p (drop at text) ≡ found (record { modifiers = m; instruction = token.step i }) left)
     × (step_token m i ≡ t)
-IsReadAt text at None left = after_fillers (drop at text) ≡ after_fillers left
+IsReadAt p text at None left = after_fillers (drop at text) ≡ after_fillers left
 
 -- the machine after the step that comes, if one does
 abbrev pub after_coming : Ready → Option Machine
 after_coming (step m i work c) = Some (after_token_step m i work c)
-after_coming (block b bs c) = Some (runs_or_halts c (after_block_step b bs c.at))
+after_coming (block b bs c) = Some (runs_or_halts c (after_block_step c.profile b bs c.at))
 after_coming (faulty c e) = None
 after_coming (finished c e) = None
 
@@ -69,41 +71,43 @@ pub record CallToken : Type 0 where
   pub at : ℕ
   pub turns : List (Option ℕ)
 
--- Where a run stands, as it is told: the steps that were done by then, the innermost text, the place in it, the
+-- Where a run stands, as it is told: the profile that texts are read in, the steps that were done by then, the innermost text, the place in it, the
 -- turns left there, and the calls, the latest first.
 pub record Told : Type 0 where
+  pub profile : Profile
   pub steps : ℕ
   pub text : List ℕ
   pub at : ℕ
   pub turns : List (Option ℕ)
   pub calls : List CallToken
 
-abbrev pub told_here : ℕ → List ℕ → ℕ → List Frame → Told
-told_here steps text at blocks =
-    record { steps = steps; text = text; at = at; turns = open_turns blocks; calls = [] }
+abbrev pub told_here : Profile → ℕ → List ℕ → ℕ → List Frame → Told
+told_here p steps text at blocks =
+    record { profile = p; steps = steps; text = text; at = at; turns = open_turns blocks; calls = [] }
 
 abbrev pub with_call : Told → ℕ → ℕ → List Frame → Told
 with_call p q at blocks =
     record p { calls = p.calls ++ record { register = q; at = at; turns = open_turns blocks } ∷ [] }
 
-pub record IsCallOf (b : Caller) (x : CallToken) : Type 0 where
+pub record IsCallOf (p : Profile) (b : Caller) (x : CallToken) : Type 0 where
   pub here : IsTokenPlace b.text x.at x.at
-  pub read : IsReadAt b.text x.at (Some (call_token x.register)) b.left
+  pub read : IsReadAt p b.text x.at (Some (call_token x.register)) b.left
   pub turns : x.turns ≡ open_turns b.blocks
 
 -- These texts have made these calls, and then come others.
-unfoldable pub HaveCalled : List CallToken → List Caller → List Caller → Type 0
-HaveCalled [] callers others = callers ≡ others
-HaveCalled (x ∷ xs) [] others = ⊥
-HaveCalled (x ∷ xs) (b ∷ callers) others = IsCallOf b x × HaveCalled xs callers others
+unfoldable pub HaveCalled : Profile → List CallToken → List Caller → List Caller → Type 0
+HaveCalled p [] callers others = callers ≡ others
+HaveCalled p (x ∷ xs) [] others = ⊥
+HaveCalled p (x ∷ xs) (b ∷ callers) others = IsCallOf p b x × HaveCalled p xs callers others
 
 -- It is told of a run that stands so, in a text with these callers.
 pub record IsToldOf (callers : List Caller) (p : Told) (s : Standing) : Type 0 where
+  pub profile : p.profile ≡ s.profile
   pub text : p.text ≡ s.text
   pub here : IsTokenPlace s.text p.at p.at
-  pub read : IsReadAt s.text p.at s.token s.left
+  pub read : IsReadAt s.profile s.text p.at s.token s.left
   pub turns : p.turns ≡ open_turns s.blocks
-  pub calls : HaveCalled p.calls s.callers callers
+  pub calls : HaveCalled s.profile p.calls s.callers callers
 
 -- where the run of a whole string stands after some steps
 abbrev pub stands_after : State → List ℕ → ℕ → Option Standing

@@ -1,5 +1,6 @@
 -- Texts that take no memory.
 use Rattle.std.specs.Prelude.{◌≡◌, [], Bool, true, false, ◌&&◌}
+use Rattle.teco_core.specs.declared.profile.Profile.{Profile}
 use Rattle.teco_scan.specs.Lists.{nodes}
 use Rattle.teco_scan.specs.Tree.{Nodes, done, item, escape, iter, cond, tag, faulty}
 use Rattle.teco_step.specs.Step.{End, on, leave, go, call, out, again, stop}
@@ -27,14 +28,14 @@ is_plain (call text) = false
 is_plain (again work) = false
 
 -- In no block, and what is left takes no memory.
-pub record IsQuiet (c : Cursor) : Type 0 where
+pub record IsQuiet (p : Profile) (c : Cursor) : Type 0 where
   pub blocks : c.blocks ≡ []
-  pub left : takes_no_memory (nodes c.left) ≡ true
+  pub left : takes_no_memory (nodes p c.left) ≡ true
 
 -- What comes next is a step that takes nothing, or the end.
-abbrev pub QuietComing : Coming → Type 0
-QuietComing (passed_to c) = IsQuiet c
-QuietComing (step_comes m i c) = (takes_nothing i ≡ true) × IsQuiet c
-QuietComing (block_comes b bs) = ⊥
-QuietComing end_comes = Unit {0}
-QuietComing (fault_comes e) = Unit {0}
+abbrev pub QuietComing : Profile → Coming → Type 0
+QuietComing p (passed_to c) = IsQuiet p c
+QuietComing p (step_comes m i c) = (takes_nothing i ≡ true) × IsQuiet p c
+QuietComing p (block_comes b bs) = ⊥
+QuietComing p end_comes = Unit {0}
+QuietComing p (fault_comes e) = Unit {0}

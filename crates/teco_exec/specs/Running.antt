@@ -1,5 +1,6 @@
 -- A run of a whole string, as it is seen at a moment, and where it goes on from there.
 use Rattle.std.specs.Prelude.{◌≡◌, ◌≢◌, ◌<◌, ℕ, zero, suc, ◌+◌, ◌-◌, List, [], ◌∷◌, false, Option, Some, None, drop, length}
+use Rattle.teco_core.specs.declared.profile.Profile.{Profile}
 use Rattle.teco_core.specs.Arguments.{Arguments}
 use Rattle.teco_core.specs.ArgumentsView.{arguments}
 use Rattle.teco_core.specs.declared.code.Code.{Code}
@@ -175,9 +176,10 @@ Comes r now (goes next) = Alike r (next now)
 Comes r now (over code) = ComesOver r now code
 Comes r now (stops code) = (fuel : ℕ) → ready_run fuel r ≡ ended_at fuel now (Some code)
 
-abbrev pub config : List ℕ → machine.Cursor → Option Further → List Caller → Now → Config
-config text c further callers now =
+abbrev pub config : Profile → List ℕ → machine.Cursor → Option Further → List Caller → Now → Config
+config p text c further callers now =
     record {
+      profile = p;
       state = now.state;
       typed = now.typed;
       load = now.load;
@@ -189,36 +191,36 @@ config text c further callers now =
 
 -- A text goes on at a cursor.
 abbrev pub at_cursor : Cursor → List Caller → Continuation
-at_cursor c callers now = ready_of (runs (config c.text.now (cursor c) None callers now))
+at_cursor c callers now = ready_of (runs (config c.text.profile c.text.bytes.now (cursor c) None callers now))
 
 -- It goes on with a step of this token, the first or a further one.
 abbrev pub at_token : Cursor → Token → Option Work → List Caller → Continuation
 at_token c token work callers now =
-    step token.modifiers (item_of_kind c.text.now token.kind) work
-    (config c.text.now (cursor c) None callers now)
+    step token.modifiers (item_of_kind c.text.bytes.now token.kind) work
+    (config c.text.profile c.text.bytes.now (cursor c) None callers now)
 
 -- It goes on with a step of a block, whose token ends at a place.
 abbrev pub at_block_step : Cursor → BlockStep → ℕ → List Caller → Continuation
 at_block_step c o to callers now =
-    block (block_step_of o) (drop to c.text.now) (config c.text.now (cursor c) None callers now)
+    block (block_step_of o) (drop to c.text.bytes.now) (config c.text.profile c.text.bytes.now (cursor c) None callers now)
 
 -- It goes on with a step that calls the text of this register. Modifiers mean nothing to it.
 abbrev pub at_register_call : Cursor → ℕ → List Caller → Continuation
 at_register_call c q callers now =
     step (record { at = false; colons = 0 }) (items.register register_command.Macro q) None
-    (config c.text.now (cursor c) None callers now)
+    (config c.text.profile c.text.bytes.now (cursor c) None callers now)
 
 -- It goes on with a call of this text.
 abbrev pub at_call : Cursor → List ℕ → List Caller → Continuation
-at_call c text callers now = ready_of (in_called_text text (config c.text.now (cursor c) None callers now))
+at_call c text callers now = ready_of (in_called_text text (config c.text.profile c.text.bytes.now (cursor c) None callers now))
 
 -- A text begins.
-abbrev pub at_beginning : Arguments → List ℕ → List Caller → Continuation
-at_beginning a text callers now = ready_of (runs (config text (cursor_at_start a text) None callers now))
+abbrev pub at_beginning : Profile → Arguments → List ℕ → List Caller → Continuation
+at_beginning p a text callers now = ready_of (runs (config p text (cursor_at_start a text) None callers now))
 
 -- A text is over, with these arguments: the latest caller goes on.
-abbrev pub at_return : Arguments → List Caller → Continuation
-at_return a callers now = ready_of (after_text_end (config [] (cursor_at_start a []) None [] now) callers)
+abbrev pub at_return : Profile → Arguments → List Caller → Continuation
+at_return p a callers now = ready_of (after_text_end (config p [] (cursor_at_start a []) None [] now) callers)
 
 -- a cursor after a call, with the arguments that it left
 abbrev pub cursor_after_call : Arguments → machine.Cursor → machine.Cursor
@@ -228,17 +230,17 @@ cursor_after_call a c = record { args = a; left = c.left; blocks = c.blocks }
 abbrev pub reached_by_flow : Cursor → List Caller → Flow → Reached
 reached_by_flow c callers flow.On = goes (at_cursor c callers)
 reached_by_flow c callers (flow.Call q) = goes (at_register_call c q callers)
-reached_by_flow c callers flow.Return = goes (at_return (arguments c.args) callers)
+reached_by_flow c callers flow.Return = goes (at_return c.text.profile (arguments c.args) callers)
 reached_by_flow c callers flow.Over = over None
 reached_by_flow c callers (flow.Fail code) = over (Some code)
 reached_by_flow c callers (flow.Stop code) = stops code
 
 -- where the end of a text leads
-abbrev pub reached_by_exit : Arguments → List Caller → Exit → Reached
-reached_by_exit a callers exit.Return = goes (at_return a callers)
-reached_by_exit a callers exit.Over = over None
-reached_by_exit a callers (exit.Fail code) = over (Some code)
-reached_by_exit a callers (exit.Stop code) = stops code
+abbrev pub reached_by_exit : Profile → Arguments → List Caller → Exit → Reached
+reached_by_exit p a callers exit.Return = goes (at_return p a callers)
+reached_by_exit p a callers exit.Over = over None
+reached_by_exit p a callers (exit.Fail code) = over (Some code)
+reached_by_exit p a callers (exit.Stop code) = stops code
 
 -- where the end of a called text leads: its caller goes on at this cursor
 abbrev pub reached_after_call : Cursor → List Caller → Exit → Reached
@@ -265,7 +267,7 @@ GoesOn (flow.Stop code) = ⊥
 
 -- A text of values and arithmetic alone goes on at such a text, or is over, but not for want of memory.
 abbrev pub GoesQuietly : Cursor → Flow → Type 0
-GoesQuietly c flow.On = IsQuiet (cursor c)
+GoesQuietly c flow.On = IsQuiet c.text.profile (cursor c)
 GoesQuietly c (flow.Call q) = ⊥
 GoesQuietly c flow.Return = Unit {0}
 GoesQuietly c flow.Over = Unit {0}
@@ -312,19 +314,21 @@ StandsAt o k s = stands_after o.state o.text k ≡ Some s
 -- before a step of this token
 abbrev pub token_standing : Cursor → Token → List Caller → Standing
 token_standing c token callers = record {
-  text = c.text.now;
+  profile = c.text.profile;
+  text = c.text.bytes.now;
   left = (cursor c).left;
   blocks = (cursor c).blocks;
   callers = callers;
-  token = Some (step_token token.modifiers (item_of_kind c.text.now token.kind));
+  token = Some (step_token token.modifiers (item_of_kind c.text.bytes.now token.kind));
 }
 
 -- A run stands at what is read where a cursor is.
 pub record IsStandingAt (c : Cursor) (others : List Caller) (s : Standing) : Type 0 where
-  pub text : s.text ≡ c.text.now
+  pub profile : s.profile ≡ c.text.profile
+  pub text : s.text ≡ c.text.bytes.now
   pub blocks : s.blocks ≡ (cursor c).blocks
   pub callers : s.callers ≡ others
-  pub read : IsReadAt c.text.now c.at s.token s.left
+  pub read : IsReadAt c.text.profile c.text.bytes.now c.at s.token s.left
 
 pub record StandsSomewhere (o : Origin) (k : ℕ) (c : Cursor) (callers : List Caller) : Type 0 where
   pub there : Standing
@@ -365,7 +369,7 @@ StandsFrom desk terminal depth old from p =
 
 -- a text that has called another
 abbrev pub caller : Cursor → Caller
-caller c = record { text = c.text.now; left = (cursor c).left; blocks = (cursor c).blocks }
+caller c = record { text = c.text.bytes.now; left = (cursor c).left; blocks = (cursor c).blocks }
 
 -- The same, where this cursor's text has called that of a register, of a place inside of that.
 abbrev pub StandsInside : {D T : Type 0} → DeskView D → TerminalView T → ℕ → D × T × Steps

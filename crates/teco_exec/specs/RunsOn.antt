@@ -23,6 +23,6 @@ pub record RunsOn {D T : Type 0} (desk : DeskView D) (terminal : TerminalView T)
   pub follows : (floor : ℕ) → desk.follows old.0 (trail_of (desk.state old.0) text floor 0)
       → desk.follows new.0 (trail_of (desk.state old.0) text floor outcome.steps)
   -- Values and arithmetic alone never end for want of memory.
-  pub no_memory : takes_no_memory (nodes text) ≡ true → outcome.code ≡ Some Mem → ⊥
+  pub no_memory : takes_no_memory (nodes (desk.state old.0).profile text) ≡ true → outcome.code ≡ Some Mem → ⊥
   -- A string that makes the editor done ends well.
   pub exit : (desk.state old.0).is_done ≡ false → (desk.state new.0).is_done ≡ true → outcome.code ≡ None

@@ -24,11 +24,11 @@ code_of (go name) = Some code.Tag
 code_of e = None
 
 abbrev pub first_world : State → ℕ → World
-first_world s limit = record { state = s; arguments = no_arguments; typed = []; load = 0; fuel = limit }
+first_world s limit = record { profile = s.profile; state = s; arguments = no_arguments; typed = []; load = 0; fuel = limit }
 
 -- the run of a text in a state, under a limit of steps
 unfoldable pub string_run : State → List ℕ → ℕ → WorldAndEnd
-string_run s text limit = meaning.list (nodes text) (nodes text) (first_world s limit) 0 false
+string_run s text limit = meaning.list (nodes s.profile text) (nodes s.profile text) (first_world s limit) 0 false
 
 abbrev pub meaning_within : ℕ → WorldAndEnd → StringMeaning
 meaning_within limit r = record {

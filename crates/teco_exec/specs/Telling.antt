@@ -1,6 +1,7 @@
 -- A place as it is told, and when it is.
 use Rattle.std.specs.Prelude.{◌≡◌, ◌↔◌, ℕ, List, Option, None, Some, Result, Ok, IfOk, IfSome, MatchOption, map}
 use Rattle.std.specs.declared.alloc.AllocError.{AllocError}
+use Rattle.teco_core.specs.declared.profile.Profile.{Profile}
 use Rattle.teco_scan.specs.Breaks.{first_break}
 use Rattle.teco_store.specs.State.{State}
 use Rattle.teco_exec.specs.Places.{CallToken, IsPlaceAfter, Told}
@@ -11,17 +12,23 @@ use Rattle.teco_exec.specs.declared.place.Place.{Place}
 abbrev pub call_told : Call → CallToken
 call_told x = record { register = x.register; at = x.at; turns = x.turns.items }
 
--- a place as it is told, in this innermost text
-abbrev pub told_of : List ℕ → Place → Told
-told_of text p =
-    record { steps = p.steps; text = text; at = p.at; turns = p.turns.items; calls = map call_told p.calls.items }
+-- a place as it is told, in this profile and this innermost text
+abbrev pub told_of : Profile → List ℕ → Place → Told
+told_of profile text p = record {
+  profile = profile;
+  steps = p.steps;
+  text = text;
+  at = p.at;
+  turns = p.turns.items;
+  calls = map call_told p.calls.items;
+}
 
 -- It is the last place at which the run of a whole string has stood after this many steps, and its fault is the
 -- first one of the innermost text.
 pub record IsLastPlace (s : State) (text : List ℕ) (k : ℕ) (p : Place) : Type 0 where
   pub innermost : List ℕ
-  pub stood : IsPlaceAfter s text k (told_of innermost p)
-  pub fault : p.fault ≡ first_break innermost
+  pub stood : IsPlaceAfter s text k (told_of s.profile innermost p)
+  pub fault : p.fault ≡ first_break s.profile innermost
 
 -- Of a string that was run from a state and ended so, this is told: the last place at which its run stood,
 -- exactly where it ended by a code; or else memory lacked for the place.

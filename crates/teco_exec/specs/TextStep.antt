@@ -24,17 +24,17 @@ pub record StepsText {D T : Type 0} (desk : DeskView D) (terminal : TerminalView
   -- The text goes on after a step, or else by what was passed.
   pub advances : GoesOn f → (old.2.done < new.2.done) ⊎ (length (cursor to).left < length (cursor from).left)
   pub leads : RunLeads desk terminal old new (at_cursor from) (λ callers. reached_by_flow to callers f)
-  pub quiet : IsQuiet (cursor from) → GoesQuietly to f
+  pub quiet : IsQuiet from.text.profile (cursor from) → GoesQuietly to f
   -- Where the run stops here, or a step failed, the blocks are as they were, and it stood at the cursor.
   pub around : OnLast f new.2.done (λ k. (cursor to).blocks ≡ (cursor from).blocks)
   pub stood : OnLast f new.2.done (HasStood desk terminal old from)
   -- Before each step that it did it stood there too.
   pub visited : (k : ℕ) → old.2.done ≤ k → k < new.2.done → HasStood desk terminal old from k
-  pub calls : OnCall f (λ q. IsReadAt from.text.now from.at (Some (call_token q)) (cursor to).left)
+  pub calls : OnCall f (λ q. IsReadAt from.text.profile from.text.bytes.now from.at (Some (call_token q)) (cursor to).left)
 
 -- What uses no step was passed from one cursor to another, or nothing was: the text goes on there as it did here.
 pub record GoesOnAlike (from to : Cursor) : Type 0 where
   pub text : to.text ≡ from.text
   pub left : length (cursor to).left ≤ length (cursor from).left
   pub alike : (callers : List Caller) (now : Now) → Alike (at_cursor from callers now) (at_cursor to callers now)
-  pub quiet : IsQuiet (cursor from) → IsQuiet (cursor to)
+  pub quiet : IsQuiet from.text.profile (cursor from) → IsQuiet to.text.profile (cursor to)

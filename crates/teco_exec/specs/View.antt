@@ -25,8 +25,8 @@ use Rattle.teco_exec.specs.declared.moves.Coming.TheVariants as coming
 abbrev pub cursor : Cursor → machine.Cursor
 cursor c = record {
   args = arguments c.args;
-  left = drop c.at c.text.now;
-  blocks = frames c.text.now c.blocks;
+  left = drop c.at c.text.bytes.now;
+  blocks = frames c.text.bytes.now c.blocks;
 }
 
 -- the beginning of a text
@@ -59,7 +59,7 @@ block_step_of (block.Decide t) = machine.decides t
 
 -- the step of the token that was found
 abbrev pub coming_of_found : Cursor → Found → machine.Coming
-coming_of_found c (found.Token t) = step_comes t.modifiers (item_of_kind c.text.now t.kind) (cursor c)
+coming_of_found c (found.Token t) = step_comes t.modifiers (item_of_kind c.text.bytes.now t.kind) (cursor c)
 coming_of_found c found.End = end_comes
 coming_of_found c (found.Fault e) = fault_comes e
 
@@ -67,7 +67,7 @@ coming_of_found c (found.Fault e) = fault_comes e
 abbrev pub coming_of : Cursor → Found → Coming → machine.Coming
 coming_of c f coming.Passed = passed_to (cursor c)
 coming_of c f coming.Step = coming_of_found c f
-coming_of c f (coming.Block o to) = block_comes (block_step_of o) (drop to c.text.now)
+coming_of c f (coming.Block o to) = block_comes (block_step_of o) (drop to c.text.bytes.now)
 coming_of c f coming.End = end_comes
 coming_of c f (coming.Fault e) = fault_comes e
 
@@ -85,7 +85,7 @@ MayOpen o bs = length bs < BLOCK_LIMIT
 -- after the token
 abbrev pub TellsComing : Cursor → Cursor → Found → Coming → Type 0
 TellsComing old new f coming.Passed = Unit {0}
-TellsComing old new f coming.Step = IsStepFound new.text.now f
-TellsComing old new f (coming.Block o to) = (to ≤ length new.text.now) × (MayOpen o new.blocks) × (new ≡ old)
+TellsComing old new f coming.Step = IsStepFound new.text.bytes.now f
+TellsComing old new f (coming.Block o to) = (to ≤ length new.text.bytes.now) × (MayOpen o new.blocks) × (new ≡ old)
 TellsComing old new f coming.End = new ≡ old
 TellsComing old new f (coming.Fault e) = (is_unfinished_code e ≡ false) × (new ≡ old)

@@ -9,8 +9,8 @@ use Rattle.teco_exec.specs.declared.watch.Watched.{Watched}
 
 -- A place is kept as it was told, with the first fault of the text there.
 pub record KeepsPlace (place : Place) (p : Told) : Type 0 where
-  pub told : told_of p.text place ≡ p
-  pub fault : place.fault ≡ first_break p.text
+  pub told : told_of p.profile p.text place ≡ p
+  pub fault : place.fault ≡ first_break p.profile p.text
 
 -- It keeps nothing; or what it has been told, where no memory lacked.
 abbrev pub Knows : Watched → Option Told → Type 0

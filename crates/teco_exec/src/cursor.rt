@@ -8,19 +8,19 @@ use crate::blocks::{Block, Blocks};
 use crate::remembered::Remembered;
 use std::alloc::Global;
 use teco_core::{Args, BLOCK_LIMIT, is_filler};
-use teco_scan::spelling;
+use teco_scan::{Text, spelling};
 
 /// Where a text is being run: how many of its bytes come before, the arguments so far, the open blocks, and what is remembered of it.
 #[derive(Drop)]
 pub struct Cursor<'t> {
-    pub(crate) text: &'t [u8],
+    pub(crate) text: Text<'t>,
     pub(crate) at: usize,
     pub(crate) args: Args,
     pub(crate) blocks: Blocks<'t>,
     pub(crate) remembered: Remembered<'t>,
-    ghost within: { at ≤ length text.now },
-    ghost begin: { All (λ b. b.start ≤ length text.now) blocks },
-    ghost same: { remembered ≡ text.now },
+    ghost within: { at ≤ length text.bytes.now },
+    ghost begin: { All (λ b. b.start ≤ length text.bytes.now) blocks },
+    ghost same: { remembered ≡ text },
 }
 
 impl<'t> Cursor<'t> {
@@ -31,13 +31,13 @@ impl<'t> Cursor<'t> {
 
     /// The beginning of a text, with these arguments, this room for its open blocks, and memory for its tags.
     pub(crate) fn begin(
-        text: &'t [u8],
+        text: Text<'t>,
         args: Args,
         room: &'t mut [Block; BLOCK_LIMIT],
         memory: Option<Global>,
     ) -> Cursor<'t>
-        ensures text { result.text.now ≡ text.now }
-        ensures begins { cursor result ≡ cursor_at_start (arguments args) text.now }
+        ensures text { result.text ≡ text.entry }
+        ensures begins { cursor result ≡ cursor_at_start (arguments args) text.entry.bytes.now }
     {
         Cursor {
             text,
@@ -57,10 +57,10 @@ impl<'t> Cursor<'t> {
 
     /// Whether `;` without modifiers comes next.
     pub(crate) fn leave_is_next(&self) -> bool
-        ensures { result ≡ machine.leave_is_next (scan (cursor self.now).left) }
+        ensures { result ≡ machine.leave_is_next (scan self.now.text.profile (cursor self.now).left) }
     {
         spelling();
-        is_leave_first(&self.text[self.at..])
+        is_leave_first(&self.text.bytes[self.at..])
     }
 }
 

@@ -13,7 +13,7 @@ use crate::watch::Watch;
 use teco_core::{ESC, is_filler};
 use teco_io::Terminal;
 use teco_scan::{
-    Form, Found, bare_token, digits_token, end_found, escape_token, lead, mark_token,
+    Form, Found, Text, bare_token, digits_token, end_found, escape_token, lead, mark_token,
     register_token, replace_token, tag_token, test_token, text_token, token_at,
 };
 use teco_store::Desk;
@@ -36,7 +36,7 @@ pub(crate) fn step<D: Desk, S: Stop, T: Terminal, W: Watch>(
     ensures { StepsText D.Desk T.Terminal (S.answered stop.old) (S.answered stop.new)
         (desk.old, term.old, steps.old) (desk.new, term.new, steps.new) cursor.old cursor.new result }
 {
-    let (text, at) = (cursor.text, cursor.at);
+    let (text, at) = (cursor.text.bytes, cursor.at);
     let Some(from) = token_start(text, at) else {
         let found = end_found(text, at, text.len());
         return step_found(desk, cursor, &found, steps, stop, term);
@@ -72,7 +72,7 @@ fn step_control<D: Desk, S: Stop, T: Terminal, W: Watch>(
     stop: &mut S,
     term: &mut T,
 ) -> Flow
-    requires { Begins cursor.old.text.now cursor.old.at from }
+    requires { Begins cursor.old.text.bytes.now cursor.old.at from }
     ensures { StepsText D.Desk T.Terminal (S.answered stop.old) (S.answered stop.new)
         (desk.old, term.old, steps.old) (desk.new, term.new, steps.new) cursor.old cursor.new result }
 {
@@ -101,7 +101,7 @@ fn step_buffer<D: Desk, S: Stop, T: Terminal, W: Watch>(
     stop: &mut S,
     term: &mut T,
 ) -> Flow
-    requires { Begins cursor.old.text.now cursor.old.at from }
+    requires { Begins cursor.old.text.bytes.now cursor.old.at from }
     ensures { StepsText D.Desk T.Terminal (S.answered stop.old) (S.answered stop.new)
         (desk.old, term.old, steps.old) (desk.new, term.new, steps.new) cursor.old cursor.new result }
 {
@@ -131,7 +131,7 @@ fn step_register<D: Desk, S: Stop, T: Terminal, W: Watch>(
     stop: &mut S,
     term: &mut T,
 ) -> Flow
-    requires { Begins cursor.old.text.now cursor.old.at from }
+    requires { Begins cursor.old.text.bytes.now cursor.old.at from }
     ensures { StepsText D.Desk T.Terminal (S.answered stop.old) (S.answered stop.new)
         (desk.old, term.old, steps.old) (desk.new, term.new, steps.new) cursor.old cursor.new result }
 {
@@ -157,7 +157,7 @@ fn step_operator<D: Desk, S: Stop, T: Terminal, W: Watch>(
     stop: &mut S,
     term: &mut T,
 ) -> Flow
-    requires { Begins cursor.old.text.now cursor.old.at from }
+    requires { Begins cursor.old.text.bytes.now cursor.old.at from }
     ensures { StepsText D.Desk T.Terminal (S.answered stop.old) (S.answered stop.new)
         (desk.old, term.old, steps.old) (desk.new, term.new, steps.new) cursor.old cursor.new result }
 {
@@ -184,7 +184,7 @@ fn step_value<D: Desk, S: Stop, T: Terminal, W: Watch>(
     stop: &mut S,
     term: &mut T,
 ) -> Flow
-    requires { Begins cursor.old.text.now cursor.old.at from }
+    requires { Begins cursor.old.text.bytes.now cursor.old.at from }
     ensures { StepsText D.Desk T.Terminal (S.answered stop.old) (S.answered stop.new)
         (desk.old, term.old, steps.old) (desk.new, term.new, steps.new) cursor.old cursor.new result }
 {
@@ -213,7 +213,7 @@ fn step_number<D: Desk, S: Stop, T: Terminal, W: Watch>(
     stop: &mut S,
     term: &mut T,
 ) -> Flow
-    requires { Begins cursor.old.text.now cursor.old.at from }
+    requires { Begins cursor.old.text.bytes.now cursor.old.at from }
     ensures { StepsText D.Desk T.Terminal (S.answered stop.old) (S.answered stop.new)
         (desk.old, term.old, steps.old) (desk.new, term.new, steps.new) cursor.old cursor.new result }
 {
@@ -234,8 +234,8 @@ fn step_known<D: Desk, S: Stop, T: Terminal>(
     term: &mut T,
 ) -> Flow
     requires read { IfSome known (λ found.
-        found_in cursor.old.text.now found ≡ scan (drop cursor.old.at cursor.old.text.now)) }
-    requires place { IfSome known (λ found. IsFoundAt cursor.old.text.now cursor.old.at found) }
+        found_in cursor.old.text.bytes.now found ≡ scan cursor.old.text.profile (drop cursor.old.at cursor.old.text.bytes.now)) }
+    requires place { IfSome known (λ found. IsFoundAt cursor.old.text.bytes.now cursor.old.at found) }
     ensures { StepsText D.Desk T.Terminal (S.answered stop.old) (S.answered stop.new)
         (desk.old, term.old, steps.old) (desk.new, term.new, steps.new) cursor.old cursor.new result }
 {
@@ -254,12 +254,12 @@ fn step_led<D: Desk, S: Stop, T: Terminal, W: Watch, const BYTE: u8>(
     stop: &mut S,
     term: &mut T,
 ) -> Flow
-    requires { Begins cursor.old.text.now cursor.old.at from }
+    requires { Begins cursor.old.text.bytes.now cursor.old.at from }
     ensures { StepsText D.Desk T.Terminal (S.answered stop.old) (S.answered stop.new)
         (desk.old, term.old, steps.old) (desk.new, term.new, steps.new) cursor.old cursor.new result }
 {
     let (text, at) = (cursor.text, cursor.at);
-    if text[from] == BYTE {
+    if text.bytes[from] == BYTE {
         let known = known_at(text, at, from);
         return step_known(desk, cursor, known, steps, stop, term);
     }
@@ -276,7 +276,7 @@ fn step_apart<D: Desk, S: Stop, T: Terminal, W: Watch, const BYTE: u8>(
     stop: &mut S,
     term: &mut T,
 ) -> Flow
-    requires { Begins cursor.old.text.now cursor.old.at from }
+    requires { Begins cursor.old.text.bytes.now cursor.old.at from }
     ensures { StepsText D.Desk T.Terminal (S.answered stop.old) (S.answered stop.new)
         (desk.old, term.old, steps.old) (desk.new, term.new, steps.new) cursor.old cursor.new result }
 {
@@ -293,11 +293,11 @@ fn step_replace<D: Desk, S: Stop, T: Terminal, W: Watch>(
     stop: &mut S,
     term: &mut T,
 ) -> Flow
-    requires { Begins cursor.old.text.now cursor.old.at from }
+    requires { Begins cursor.old.text.bytes.now cursor.old.at from }
     ensures { StepsText D.Desk T.Terminal (S.answered stop.old) (S.answered stop.new)
         (desk.old, term.old, steps.old) (desk.new, term.new, steps.new) cursor.old cursor.new result }
 {
-    let known = replace_token(cursor.text, cursor.at, from);
+    let known = replace_token(cursor.text.bytes, cursor.at, from);
     step_known(desk, cursor, known, steps, stop, term)
 }
 
@@ -310,7 +310,7 @@ fn step_tags<D: Desk, S: Stop, T: Terminal, W: Watch>(
     stop: &mut S,
     term: &mut T,
 ) -> Flow
-    requires { Begins cursor.old.text.now cursor.old.at from }
+    requires { Begins cursor.old.text.bytes.now cursor.old.at from }
     ensures { StepsText D.Desk T.Terminal (S.answered stop.old) (S.answered stop.new)
         (desk.old, term.old, steps.old) (desk.new, term.new, steps.new) cursor.old cursor.new result }
 {
@@ -332,11 +332,11 @@ fn step_digits<D: Desk, S: Stop, T: Terminal, W: Watch>(
     stop: &mut S,
     term: &mut T,
 ) -> Flow
-    requires { Begins cursor.old.text.now cursor.old.at from }
+    requires { Begins cursor.old.text.bytes.now cursor.old.at from }
     ensures { StepsText D.Desk T.Terminal (S.answered stop.old) (S.answered stop.new)
         (desk.old, term.old, steps.old) (desk.new, term.new, steps.new) cursor.old cursor.new result }
 {
-    let (text, at) = (cursor.text, cursor.at);
+    let (text, at) = (cursor.text.bytes, cursor.at);
     if text[from].is_ascii_digit() {
         let found = digits_token(text, at, from);
         return step_found(desk, cursor, &found, steps, stop, term);
@@ -354,7 +354,7 @@ fn step_other<D: Desk, S: Stop, T: Terminal>(
     stop: &mut S,
     term: &mut T,
 ) -> Flow
-    requires { Begins cursor.old.text.now cursor.old.at from }
+    requires { Begins cursor.old.text.bytes.now cursor.old.at from }
     ensures { StepsText D.Desk T.Terminal (S.answered stop.old) (S.answered stop.new)
         (desk.old, term.old, steps.old) (desk.new, term.new, steps.new) cursor.old cursor.new result }
 {
@@ -374,25 +374,26 @@ fn step_any<D: Desk, S: Stop, T: Terminal>(
     ensures { StepsText D.Desk T.Terminal (S.answered stop.old) (S.answered stop.new)
         (desk.old, term.old, steps.old) (desk.new, term.new, steps.new) cursor.old cursor.new result }
 {
-    let found = token_at(cursor.text, cursor.at);
+    let found = token_at(cursor.text.profile, cursor.text.bytes, cursor.at);
     step_found(desk, cursor, &found, steps, stop, term)
 }
 
 /// The token that begins at a place, if its first byte alone names its command and what belongs to it follows.
 #[inline(always)]
-fn known_at(text: &[u8], at: usize, from: usize) -> Option<Found>
-    requires { Begins text.now at from }
-    ensures read { IfSome result (λ found. found_in text.now found ≡ scan (drop at text.now)) }
-    ensures place { IfSome result (λ found. IsFoundAt text.now at found) }
+fn known_at(text: Text, at: usize, from: usize) -> Option<Found>
+    requires { Begins text.bytes.now at from }
+    ensures read { IfSome result (λ found. found_in text.entry.bytes.now found ≡ scan text.entry.profile (drop at text.entry.bytes.now)) }
+    ensures place { IfSome result (λ found. IsFoundAt text.entry.bytes.now at found) }
 {
-    match lead(text, at, from)? {
-        Form::Bare(command) => Some(bare_token(text, at, from, command)),
-        Form::Mark(mark) => Some(mark_token(text, at, from, mark)),
-        Form::Register(command) => register_token(text, at, from, command),
-        Form::Text(command, usual) => text_token(text, at, from, command, usual),
-        Form::Tag => tag_token(text, at, from),
-        Form::Test => test_token(text, at, from),
-        Form::Escape => Some(escape_token(text, at, from)),
+    let Text { profile, bytes } = text;
+    match lead(bytes, at, from)? {
+        Form::Bare(command) => Some(bare_token(bytes, at, from, command)),
+        Form::Mark(mark) => Some(mark_token(bytes, at, from, mark)),
+        Form::Register(command) => register_token(bytes, at, from, command),
+        Form::Text(command, usual) => text_token(bytes, at, from, command, usual),
+        Form::Tag => tag_token(bytes, at, from),
+        Form::Test => test_token(profile, bytes, at, from),
+        Form::Escape => Some(escape_token(bytes, at, from)),
         _ => None,
     }
 }

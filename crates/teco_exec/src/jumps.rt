@@ -13,7 +13,7 @@ impl<'t> Cursor<'t> {
     pub(crate) fn leave(&mut self) -> Result<(), Code>
         ensures text { self.new.text ≡ self.old.text }
         ensures moves { cursor_or_error self.new result
-            ≡ machine.after_leaving_iteration (cursor self.old).blocks (cursor self.old).args
+            ≡ machine.after_leaving_iteration self.old.text.profile (cursor self.old).blocks (cursor self.old).args
             (cursor self.old).left }
         ensures finished { ResultFinishes result }
         ensures stays { OnErr result (Stays self.old self.new) }
@@ -39,10 +39,10 @@ impl<'t> Cursor<'t> {
     /// Jumps past the first tag of this name, which lies in the text, that is directly in the innermost list of commands that has one. Where none has, the cursor
     /// stays.
     pub(crate) fn jump(&mut self, name: Span) -> Result<(), Code>
-        requires { IsSpanIn (length self.old.text.now) name }
+        requires { IsSpanIn (length self.old.text.bytes.now) name }
         ensures text { self.new.text ≡ self.old.text }
         ensures moves { cursor_or_error self.new result
-            ≡ machine.after_jump (bytes_in self.old.text.now name) self.old.text.now (cursor self.old).blocks (cursor self.old).args }
+            ≡ machine.after_jump self.old.text.profile (bytes_in self.old.text.bytes.now name) self.old.text.bytes.now (cursor self.old).blocks (cursor self.old).args }
         ensures finished { ResultFinishes result }
         ensures stays { OnErr result (Stays self.old self.new) }
     {

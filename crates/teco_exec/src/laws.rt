@@ -1,5 +1,5 @@
 //! What the meaning of command strings says, and the machine beside it.
-ghost use Rattle.teco_exec.specs.Laws.{MeaningUnrolls, EmptyListEnds, FaultStops, TagIsPassed, EscapeDrops, NothingWithoutFuel, StepEnds, StepComesTo, FurtherStep, BlockComesTo, TurnEnds, LeavingEnds, StepsWithinLimit, MoreLimitChangesNothing, EnoughIsEnough, LimitsAreReached, ZeroLimitChangesNothing, ExitEndsWell};
+ghost use Rattle.teco_exec.specs.Laws.{MeaningUnrolls, EmptyListEnds, FaultStops, TagIsPassed, EscapeDrops, NothingWithoutFuel, StepEnds, StepComesTo, FurtherStep, BlockComesTo, TurnEnds, LeavingEnds, StepsWithinLimit, MoreLimitChangesNothing, EnoughIsEnough, LimitsAreReached, ZeroLimitChangesNothing, ExitEndsWell, ProfileIsKept};
 ghost use Rattle.teco_exec.specs.MachineLaws.{MachineMeans, MachineFollows};
 
 use teco_scan::block_laws;
@@ -25,6 +25,7 @@ pub fn meaning_laws()
     ensures reached { LimitsAreReached }
     ensures limit_zero { ZeroLimitChangesNothing }
     ensures exit { ExitEndsWell }
+    ensures profile { ProfileIsKept }
 {
     effect_laws();
     machine_laws();

@@ -40,10 +40,10 @@ impl<'t> Cursor<'t> {
     /// It is the token that was found here.
     #[inline(always)]
     pub(crate) fn pass(&mut self, found: &Found) -> Coming
-        requires read { found_in self.old.text.now found.now ≡ scan (drop self.old.at self.old.text.now) }
-        requires place { IsFoundAt self.old.text.now self.old.at found.now }
+        requires read { found_in self.old.text.bytes.now found.now ≡ scan self.old.text.profile (drop self.old.at self.old.text.bytes.now) }
+        requires place { IsFoundAt self.old.text.bytes.now self.old.at found.now }
         ensures text { self.new.text ≡ self.old.text }
-        ensures comes { coming_of self.new found.now result ≡ machine.pass (cursor self.old) }
+        ensures comes { coming_of self.new found.now result ≡ machine.pass self.old.text.profile (cursor self.old) }
         ensures told { TellsComing self.old self.new found.now result }
     {
         match found {
@@ -82,11 +82,11 @@ impl<'t> Cursor<'t> {
     /// Passes a mark that uses no step, or tells what comes.
     #[inline(always)]
     fn pass_mark(&mut self, mark: BlockMark, to: usize) -> Coming
-        requires { to ≤ length self.old.text.now }
+        requires { to ≤ length self.old.text.bytes.now }
         ensures text { self.new.text ≡ self.old.text }
         ensures comes { (found : Found)
             → coming_of self.new found result
-            ≡ machine.pass_mark mark (drop to self.old.text.now) (cursor self.old) }
+            ≡ machine.pass_mark self.old.text.profile mark (drop to self.old.text.bytes.now) (cursor self.old) }
         ensures told { (found : Found) → TellsComing self.old self.new found result }
     {
         match mark {
@@ -99,11 +99,11 @@ impl<'t> Cursor<'t> {
 
     /// A block opens here, unless `BLOCK_LIMIT` are open.
     fn pass_opening(&self, block: BlockStep, to: usize) -> Coming
-        requires within { to ≤ length self.now.text.now }
+        requires within { to ≤ length self.now.text.bytes.now }
         requires opens { block_step_of block ≢ machine.ends_turn }
         ensures comes { (found : Found)
             → coming_of self.now found result
-            ≡ machine.pass_opening (block_step_of block) (drop to self.now.text.now) (cursor self.now) }
+            ≡ machine.pass_opening (block_step_of block) (drop to self.now.text.bytes.now) (cursor self.now) }
         ensures told { (found : Found) → TellsComing self.now self.now found result }
     {
         if self.blocks.len() == BLOCK_LIMIT {
@@ -115,10 +115,10 @@ impl<'t> Cursor<'t> {
 
     /// At `>`: a turn ends here, if the innermost block is an iteration.
     fn pass_turn_end(&self, to: usize) -> Coming
-        requires { to ≤ length self.now.text.now }
+        requires { to ≤ length self.now.text.bytes.now }
         ensures comes { (found : Found)
             → coming_of self.now found result
-            ≡ machine.pass_turn_end (drop to self.now.text.now) (cursor self.now).blocks }
+            ≡ machine.pass_turn_end (drop to self.now.text.bytes.now) (cursor self.now).blocks }
         ensures told { (found : Found) → TellsComing self.now self.now found result }
     {
         match self.blocks.top() {
@@ -132,11 +132,11 @@ impl<'t> Cursor<'t> {
 
     /// At the `|` after a part that was run: the other part is skipped.
     fn pass_divider(&mut self, to: usize) -> Coming
-        requires { to ≤ length self.old.text.now }
+        requires { to ≤ length self.old.text.bytes.now }
         ensures text { self.new.text ≡ self.old.text }
         ensures comes { (found : Found)
             → coming_of self.new found result
-            ≡ machine.pass_divider (drop to self.old.text.now) (cursor self.old).blocks }
+            ≡ machine.pass_divider self.old.text.profile (drop to self.old.text.bytes.now) (cursor self.old).blocks }
         ensures told { (found : Found) → TellsComing self.old self.new found result }
     {
         let depth = self.blocks.len();
@@ -159,11 +159,11 @@ impl<'t> Cursor<'t> {
 
     /// At the `'` after a part that was run.
     fn pass_part_end(&mut self, to: usize) -> Coming
-        requires { to ≤ length self.old.text.now }
+        requires { to ≤ length self.old.text.bytes.now }
         ensures text { self.new.text ≡ self.old.text }
         ensures comes { (found : Found)
             → coming_of self.new found result
-            ≡ machine.pass_part_end (drop to self.old.text.now) (cursor self.old).blocks }
+            ≡ machine.pass_part_end (drop to self.old.text.bytes.now) (cursor self.old).blocks }
         ensures told { (found : Found) → TellsComing self.old self.new found result }
     {
         match self.blocks.top() {
@@ -183,11 +183,11 @@ impl<'t> Cursor<'t> {
     /// Takes a step that opens a block or ends a turn, and whose token ends at a place.
     #[inline(always)]
     pub(crate) fn block_step(&mut self, block: BlockStep, to: usize) -> Result<(), Code>
-        requires within { to ≤ length self.old.text.now }
+        requires within { to ≤ length self.old.text.bytes.now }
         requires opens { MayOpen block self.old.blocks }
         ensures text { self.new.text ≡ self.old.text }
         ensures moves { cursor_or_error self.new result
-            ≡ machine.after_block_step (block_step_of block) (drop to self.old.text.now) (cursor self.old) }
+            ≡ machine.after_block_step self.old.text.profile (block_step_of block) (drop to self.old.text.bytes.now) (cursor self.old) }
         ensures finished { ResultFinishes result }
         ensures stays { OnErr result (Stays self.old self.new) }
     {
@@ -203,11 +203,11 @@ impl<'t> Cursor<'t> {
 
     /// An iteration begins: without end where it takes nothing, and not at all where its number is at most 0.
     fn iterate(&mut self, to: usize) -> Result<(), Code>
-        requires within { to ≤ length self.old.text.now }
+        requires within { to ≤ length self.old.text.bytes.now }
         requires few { length self.old.blocks < BLOCK_LIMIT }
         ensures text { self.new.text ≡ self.old.text }
         ensures moves { cursor_or_error self.new result
-            ≡ machine.after_block_step machine.iterates (drop to self.old.text.now) (cursor self.old) }
+            ≡ machine.after_block_step self.old.text.profile machine.iterates (drop to self.old.text.bytes.now) (cursor self.old) }
         ensures finished { ResultFinishes result }
         ensures stays { OnErr result (Stays self.old self.new) }
     {
@@ -229,11 +229,11 @@ impl<'t> Cursor<'t> {
 
     /// A conditional begins: the part that its test chooses is run.
     fn decide(&mut self, test: Test, to: usize) -> Result<(), Code>
-        requires within { to ≤ length self.old.text.now }
+        requires within { to ≤ length self.old.text.bytes.now }
         requires few { length self.old.blocks < BLOCK_LIMIT }
         ensures text { self.new.text ≡ self.old.text }
         ensures moves { cursor_or_error self.new result
-            ≡ machine.after_block_step (machine.decides test) (drop to self.old.text.now) (cursor self.old) }
+            ≡ machine.after_block_step self.old.text.profile (machine.decides test) (drop to self.old.text.bytes.now) (cursor self.old) }
         ensures finished { ResultFinishes result }
         ensures stays { OnErr result (Stays self.old self.new) }
     {
@@ -253,11 +253,11 @@ impl<'t> Cursor<'t> {
     /// A turn ends: the next one begins, or the iteration is over.
     #[inline(always)]
     fn end_turn(&mut self, to: usize)
-        requires within { to ≤ length self.old.text.now }
+        requires within { to ≤ length self.old.text.bytes.now }
         requires ends { EndsTurn self.old.blocks }
         ensures text { self.new.text ≡ self.old.text }
         ensures moves { Ok (cursor self.new)
-            ≡ machine.after_block_step machine.ends_turn (drop to self.old.text.now) (cursor self.old) }
+            ≡ machine.after_block_step self.old.text.profile machine.ends_turn (drop to self.old.text.bytes.now) (cursor self.old) }
     {
         let next = self.blocks.next_turn();
         self.args.clear();
@@ -272,11 +272,11 @@ impl<'t> Cursor<'t> {
 
     /// Opens a block, whose commands begin at a place.
     fn enter(&mut self, start: usize, body: Body)
-        requires within { start ≤ length self.old.text.now }
+        requires within { start ≤ length self.old.text.bytes.now }
         requires few { length self.old.blocks < BLOCK_LIMIT }
         ensures text { self.new.text ≡ self.old.text }
         ensures enters { cursor self.new
-            ≡ machine.inside_block (kind_of body) (turns_left body) (drop start self.old.text.now)
+            ≡ machine.inside_block (kind_of body) (turns_left body) (drop start self.old.text.bytes.now)
             (cursor self.old) }
     {
         self.blocks.push(Block { start, body });
@@ -285,11 +285,11 @@ impl<'t> Cursor<'t> {
 
     /// Goes past a whole iteration that isn't run, whose commands begin at a place.
     fn pass_over(&mut self, start: usize) -> Result<(), Code>
-        requires within { start ≤ length self.old.text.now }
+        requires within { start ≤ length self.old.text.bytes.now }
         requires few { length self.old.blocks < BLOCK_LIMIT }
         ensures text { self.new.text ≡ self.old.text }
         ensures moves { cursor_or_error self.new result
-            ≡ machine.after_counted_start 0 (drop start self.old.text.now) (cursor self.old) }
+            ≡ machine.after_counted_start self.old.text.profile 0 (drop start self.old.text.bytes.now) (cursor self.old) }
         ensures finished { ResultFinishes result }
         ensures stays { OnErr result (Stays self.old self.new) }
     {
@@ -300,11 +300,11 @@ impl<'t> Cursor<'t> {
 
     /// Skips the first part of a conditional, and enters the second, if there is one.
     fn enter_second(&mut self, start: usize) -> Result<(), Code>
-        requires within { start ≤ length self.old.text.now }
+        requires within { start ≤ length self.old.text.bytes.now }
         requires few { length self.old.blocks < BLOCK_LIMIT }
         ensures text { self.new.text ≡ self.old.text }
         ensures moves { cursor_or_error self.new result
-            ≡ machine.after_first_part (drop start self.old.text.now) (cursor self.old) }
+            ≡ machine.after_first_part self.old.text.profile (drop start self.old.text.bytes.now) (cursor self.old) }
         ensures finished { ResultFinishes result }
         ensures stays { OnErr result (Stays self.old self.new) }
     {

@@ -9,7 +9,7 @@ ghost use Rattle.teco_scan.specs.declared.blocks.Kind.TheVariants.{Then};
 use std::alloc::Global;
 use std::marker::Model;
 use teco_core::{BLOCK_LIMIT, Code};
-use teco_scan::{Kind, SkipEnd, Span, Tags, find_tag, skip_block};
+use teco_scan::{Kind, SkipEnd, Span, Tags, Text, find_tag, skip_block};
 
 /// The most skips that are remembered of a text.
 const SKIPS: usize = 8;
@@ -61,7 +61,7 @@ impl Search {
 /// A clause sees the text. What is remembered of it changes nothing that a clause says.
 #[derive(Drop)]
 pub(crate) struct Remembered<'t> {
-    text: &'t [u8],
+    text: Text<'t>,
     skips: [Option<Skip>; SKIPS],
     searches: [Option<Search>; SEARCHES],
     /// How many bytes searches have walked, at most.
@@ -77,16 +77,17 @@ pub(crate) struct Remembered<'t> {
 }
 
 impl<'t> Model for Remembered<'t> {
-    ghost use Rattle.std.specs.Prelude.{◌≡◌, All, List, ℕ};
+    ghost use Rattle.std.specs.Prelude.{◌≡◌, All};
+    ghost use Rattle.teco_scan.specs.declared.text.Text.{Text};
     ghost use Rattle.teco_exec.specs.Remembered.{IsSearchIfAny, IsSkipIfAny};
 
-    ghost Value = { List ℕ };
+    ghost Value = { Text };
 
-    ghost view = { λ r. r.text.now };
+    ghost view = { λ r. r.text };
 
-    ghost invariant = { λ r. (All (IsSkipIfAny r.text.now) r.skips)
-        × (All (IsSearchIfAny r.text.now) r.searches)
-        × (r.tags ≡ r.text.now) };
+    ghost invariant = { λ r. (All (IsSkipIfAny r.text.profile r.text.bytes.now) r.skips)
+        × (All (IsSearchIfAny r.text.profile r.text.bytes.now) r.searches)
+        × (r.tags ≡ r.text) };
 }
 
 impl<'t> Remembered<'t> {
@@ -94,8 +95,8 @@ impl<'t> Remembered<'t> {
     ghost use Rattle.teco_exec.specs.Remembered.{IsSearchOf};
 
     /// Nothing is remembered of this text.
-    pub fn new(text: &'t [u8], memory: Option<Global>) -> Remembered<'t>
-        ensures { result ≡ text.now }
+    pub fn new(text: Text<'t>, memory: Option<Global>) -> Remembered<'t>
+        ensures { result ≡ text.entry }
     {
         Remembered {
             text,
@@ -111,11 +112,11 @@ impl<'t> Remembered<'t> {
 
     /// What [`skip_block`] gives of the text. It is found at once where it is one of the latest.
     pub fn skip(&mut self, at: usize, kind: Kind, depth: usize) -> Result<SkipEnd, Code>
-        requires inside { at ≤ length self.old }
+        requires inside { at ≤ length self.old.bytes.now }
         requires few { depth ≤ BLOCK_LIMIT }
         ensures text { self.new ≡ self.old }
-        ensures closes { close_of self.old result ≡ (list_at (Some kind) depth (drop at self.old)).1 }
-        ensures within { IfOk result (λ stop. stop.to ≤ length self.old) }
+        ensures closes { close_of self.old.bytes.now result ≡ (list_at self.old.profile (Some kind) depth (drop at self.old.bytes.now)).1 }
+        ensures within { IfOk result (λ stop. stop.to ≤ length self.old.bytes.now) }
         ensures divided { IfOk result (λ stop. stop.divided ≡ true → kind ≡ Then) }
         ensures fault { IfErr result (λ code. is_fault code ≡ true) }
     {
@@ -128,12 +129,12 @@ impl<'t> Remembered<'t> {
 
     /// What [`skip_whole_block`] gives of the text, by at most two such skips.
     pub fn skip_whole(&mut self, at: usize, kind: Kind, depth: usize) -> Result<usize, Code>
-        requires inside { at ≤ length self.old }
+        requires inside { at ≤ length self.old.bytes.now }
         requires few { depth ≤ BLOCK_LIMIT }
         ensures text { self.new ≡ self.old }
-        ensures passes { past_of self.old result
-            ≡ behind_block list_at kind depth (list_at (Some kind) depth (drop at self.old)).1 }
-        ensures within { IfOk result (λ to. to ≤ length self.old) }
+        ensures passes { past_of self.old.bytes.now result
+            ≡ behind_block (list_at self.old.profile) kind depth (list_at self.old.profile (Some kind) depth (drop at self.old.bytes.now)).1 }
+        ensures within { IfOk result (λ to. to ≤ length self.old.bytes.now) }
         ensures fault { IfErr result (λ code. is_fault code ≡ true) }
     {
         let stop = self.skip(at, kind, depth)?;
@@ -146,12 +147,12 @@ impl<'t> Remembered<'t> {
 
     /// What [`find_tag`] gives of the text, for a name that lies in it. It is found at once where it is one of the latest.
     pub fn tag(&mut self, start: usize, depth: usize, name: Span) -> Option<usize>
-        requires inside { start ≤ length self.old }
+        requires inside { start ≤ length self.old.bytes.now }
         requires few { depth ≤ BLOCK_LIMIT }
-        requires name { IsSpanIn (length self.old) name }
+        requires name { IsSpanIn (length self.old.bytes.now) name }
         ensures text { self.new ≡ self.old }
-        ensures finds { tag_of self.old result ≡ tag_at (bytes_in self.old name) depth (drop start self.old) }
-        ensures within { IfSome result (λ to. to ≤ length self.old) }
+        ensures finds { tag_of self.old.bytes.now result ≡ tag_at self.old.profile (bytes_in self.old.bytes.now name) depth (drop start self.old.bytes.now) }
+        ensures within { IfSome result (λ to. to ≤ length self.old.bytes.now) }
     {
         match self.searched(start, depth, name) {
             Some(search) => search.place(),
@@ -164,8 +165,8 @@ impl<'t> Remembered<'t> {
     fn skipped(&self, number: usize, at: usize, kind: Kind, depth: usize) -> Option<SkipEnd>
         requires { number < SKIPS }
         ensures closes { IfSome result (λ stop.
-            closed stop.divided (drop stop.to self.now) ≡ (list_at (Some kind) depth (drop at self.now)).1) }
-        ensures within { IfSome result (λ stop. stop.to ≤ length self.now) }
+            closed stop.divided (drop stop.to self.now.bytes.now) ≡ (list_at self.now.profile (Some kind) depth (drop at self.now.bytes.now)).1) }
+        ensures within { IfSome result (λ stop. stop.to ≤ length self.now.bytes.now) }
         ensures divided { IfSome result (λ stop. stop.divided ≡ true → kind ≡ Then) }
     {
         let skip = self.skips[number]?;
@@ -181,8 +182,8 @@ impl<'t> Remembered<'t> {
     /// Where this skip stopped, if it is remembered.
     fn skipped_before(&self, at: usize, kind: Kind, depth: usize) -> Option<SkipEnd>
         ensures closes { IfSome result (λ stop.
-            closed stop.divided (drop stop.to self.now) ≡ (list_at (Some kind) depth (drop at self.now)).1) }
-        ensures within { IfSome result (λ stop. stop.to ≤ length self.now) }
+            closed stop.divided (drop stop.to self.now.bytes.now) ≡ (list_at self.now.profile (Some kind) depth (drop at self.now.bytes.now)).1) }
+        ensures within { IfSome result (λ stop. stop.to ≤ length self.now.bytes.now) }
         ensures divided { IfSome result (λ stop. stop.divided ≡ true → kind ≡ Then) }
     {
         for number in 0..SKIPS {
@@ -196,11 +197,11 @@ impl<'t> Remembered<'t> {
     /// Does what [`Remembered::skip`] does, out of line: looks at each skip that is remembered, and else skips in the text.
     #[inline(never)]
     fn skip_apart(&mut self, at: usize, kind: Kind, depth: usize) -> Result<SkipEnd, Code>
-        requires inside { at ≤ length self.old }
+        requires inside { at ≤ length self.old.bytes.now }
         requires few { depth ≤ BLOCK_LIMIT }
         ensures text { self.new ≡ self.old }
-        ensures closes { close_of self.old result ≡ (list_at (Some kind) depth (drop at self.old)).1 }
-        ensures within { IfOk result (λ stop. stop.to ≤ length self.old) }
+        ensures closes { close_of self.old.bytes.now result ≡ (list_at self.old.profile (Some kind) depth (drop at self.old.bytes.now)).1 }
+        ensures within { IfOk result (λ stop. stop.to ≤ length self.old.bytes.now) }
         ensures divided { IfOk result (λ stop. stop.divided ≡ true → kind ≡ Then) }
         ensures fault { IfErr result (λ code. is_fault code ≡ true) }
     {
@@ -212,16 +213,16 @@ impl<'t> Remembered<'t> {
 
     /// Skips in the text, and remembers it.
     fn skip_anew(&mut self, at: usize, kind: Kind, depth: usize) -> Result<SkipEnd, Code>
-        requires inside { at ≤ length self.old }
+        requires inside { at ≤ length self.old.bytes.now }
         requires few { depth ≤ BLOCK_LIMIT }
         ensures text { self.new ≡ self.old }
-        ensures closes { close_of self.old result ≡ (list_at (Some kind) depth (drop at self.old)).1 }
-        ensures within { IfOk result (λ stop. stop.to ≤ length self.old) }
+        ensures closes { close_of self.old.bytes.now result ≡ (list_at self.old.profile (Some kind) depth (drop at self.old.bytes.now)).1 }
+        ensures within { IfOk result (λ stop. stop.to ≤ length self.old.bytes.now) }
         ensures divided { IfOk result (λ stop. stop.divided ≡ true → kind ≡ Then) }
         ensures fault { IfErr result (λ code. is_fault code ≡ true) }
     {
-        let stop = skip_block(self.text, at, kind, depth)?;
-        if self.text.len() <= u32::MAX as usize {
+        let stop = skip_block(self.text.profile, self.text.bytes, at, kind, depth)?;
+        if self.text.bytes.len() <= u32::MAX as usize {
             let oldest = usize::from(self.oldest_skip) % SKIPS;
             self.skips[oldest] = Some(Skip {
                 at: at as u32,
@@ -239,7 +240,7 @@ impl<'t> Remembered<'t> {
     /// This search, if it is remembered. What comes after the first free room is free too.
     #[inline(always)]
     fn searched(&self, start: usize, depth: usize, name: Span) -> Option<Search>
-        ensures is { IfSome result (λ search. IsSearchOf self.now search) }
+        ensures is { IfSome result (λ search. IsSearchOf self.now.profile self.now.bytes.now search) }
         ensures asked { IfSome result (λ search. (search.start ≡ start) × (search.depth ≡ depth)) }
         ensures named { IfSome result (λ search. (search.from ≡ name.from) × (search.to ≡ name.to)) }
     {
@@ -259,14 +260,14 @@ impl<'t> Remembered<'t> {
     /// Searches the text for a tag, and remembers it.
     #[inline(never)]
     fn search_anew(&mut self, start: usize, depth: usize, name: Span) -> Option<usize>
-        requires inside { start ≤ length self.old }
+        requires inside { start ≤ length self.old.bytes.now }
         requires few { depth ≤ BLOCK_LIMIT }
-        requires name { IsSpanIn (length self.old) name }
+        requires name { IsSpanIn (length self.old.bytes.now) name }
         ensures text { self.new ≡ self.old }
-        ensures finds { tag_of self.old result ≡ tag_at (bytes_in self.old name) depth (drop start self.old) }
-        ensures within { IfSome result (λ to. to ≤ length self.old) }
+        ensures finds { tag_of self.old.bytes.now result ≡ tag_at self.old.profile (bytes_in self.old.bytes.now name) depth (drop start self.old.bytes.now) }
+        ensures within { IfSome result (λ to. to ≤ length self.old.bytes.now) }
     {
-        let text = self.text;
+        let text = self.text.bytes;
         let found = self.search_text(start, depth, &text[name.from..name.to]);
         if text.len() <= u32::MAX as usize {
             let oldest = usize::from(self.oldest_search) % SEARCHES;
@@ -287,15 +288,15 @@ impl<'t> Remembered<'t> {
 
     /// Searches the text for a tag, in what was gathered once much was walked.
     fn search_text(&mut self, start: usize, depth: usize, name: &[u8]) -> Option<usize>
-        requires inside { start ≤ length self.old }
+        requires inside { start ≤ length self.old.bytes.now }
         requires few { depth ≤ BLOCK_LIMIT }
         ensures text { self.new ≡ self.old }
-        ensures finds { tag_of self.old result ≡ tag_at name.now depth (drop start self.old) }
-        ensures within { IfSome result (λ to. to ≤ length self.old) }
+        ensures finds { tag_of self.old.bytes.now result ≡ tag_at self.old.profile name.now depth (drop start self.old.bytes.now) }
+        ensures within { IfSome result (λ to. to ≤ length self.old.bytes.now) }
     {
-        let len = self.text.len();
+        let len = self.text.bytes.len();
         if self.walked < WALKED_LEAST || self.walked / WALKS < len {
-            let found = find_tag(self.text, start, depth, name);
+            let found = find_tag(self.text.profile, self.text.bytes, start, depth, name);
             let end = found.unwrap_or(len);
             self.walked = self.walked.saturating_add(end.saturating_sub(start));
             return found;

@@ -16,6 +16,7 @@ use crate::texts::{EMPTY_ROOM, ROOMS, Running, run_in};
 use crate::watch::{Unwatched, Watch};
 use teco_core::Args;
 use teco_io::Terminal;
+use teco_scan::Text;
 use teco_store::Desk;
 
 /// Runs a command string on a desk and a terminal, for at most `limit` steps.
@@ -90,6 +91,10 @@ fn run_watched<D: Desk, S: Stop, T: Terminal, W: Watch>(
         depth: 0,
         spare: Spare::new(),
         watch,
+    };
+    let text = Text {
+        profile: desk.profile(),
+        bytes: text,
     };
     let exit = run_in(desk, text, &mut args, &mut rooms, &mut running, stop, term);
     let Running { steps, watch, .. } = running;

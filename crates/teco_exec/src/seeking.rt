@@ -69,7 +69,7 @@ impl<'a, P: Wants + Drop> Watch for Seeking<'a, P> {
         if self.found.is_some() || first >= new {
             return;
         }
-        if self.places.wants(calls, filler_end(cursor.text, at)) {
+        if self.places.wants(calls, filler_end(cursor.text.bytes, at)) {
             self.found = Some(first);
             self.has_found.set(true);
         }

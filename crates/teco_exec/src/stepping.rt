@@ -44,8 +44,8 @@ pub(crate) fn step_found<D: Desk, S: Stop, T: Terminal>(
     stop: &mut S,
     term: &mut T,
 ) -> Flow
-    requires read { found_in cursor.old.text.now found.now ≡ scan (drop cursor.old.at cursor.old.text.now) }
-    requires place { IsFoundAt cursor.old.text.now cursor.old.at found.now }
+    requires read { found_in cursor.old.text.bytes.now found.now ≡ scan cursor.old.text.profile (drop cursor.old.at cursor.old.text.bytes.now) }
+    requires place { IsFoundAt cursor.old.text.bytes.now cursor.old.at found.now }
     ensures { StepsText D.Desk T.Terminal (S.answered stop.old) (S.answered stop.new)
         (desk.old, term.old, steps.old) (desk.new, term.new, steps.new) cursor.old cursor.new result }
 {
@@ -73,14 +73,14 @@ fn token_steps<D: Desk, S: Stop, T: Terminal>(
     stop: &mut S,
     term: &mut T,
 ) -> Flow
-    requires { IsStepIn cursor.old.text.now token.now }
+    requires { IsStepIn cursor.old.text.bytes.now token.now }
     ensures text { cursor.new.text ≡ cursor.old.text }
     ensures counts { CountsSteps (S.answered stop.old) (S.answered stop.new) (result ≡ flow.Stop Lim)
         steps.old steps.new }
     ensures more { GoesOn result → steps.old.done < steps.new.done }
     ensures leads { RunLeads D.Desk T.Terminal (desk.old, term.old, steps.old) (desk.new, term.new, steps.new)
         (at_token cursor.old token.now None) (λ callers. reached_by_flow cursor.new callers result) }
-    ensures quiet { IsQuiet (cursor_of cursor.old) → takes_nothing_in cursor.old.text.now token.now ≡ true
+    ensures quiet { IsQuiet cursor.old.text.profile (cursor_of cursor.old) → takes_nothing_in cursor.old.text.bytes.now token.now ≡ true
         → GoesQuietly cursor.new result }
     ensures stays { FlowStays cursor.old cursor.new result }
     ensures stood { OnLast result steps.new.done
@@ -112,7 +112,7 @@ fn token_step<D: Desk, S: Stop, T: Terminal>(
     stop: &mut S,
     term: &mut T,
 ) -> Progress
-    requires { IsStepIn cursor.old.text.now token.now }
+    requires { IsStepIn cursor.old.text.bytes.now token.now }
     ensures text { cursor.new.text ≡ cursor.old.text }
     ensures counts { CountsSteps (S.answered stop.old) (S.answered stop.new)
         (result ≡ progress.Done (flow.Stop Lim)) steps.old steps.new }
@@ -121,7 +121,7 @@ fn token_step<D: Desk, S: Stop, T: Terminal>(
     ensures leads { RunLeads D.Desk T.Terminal (desk.old, term.old, steps.old) (desk.new, term.new, steps.new)
         (at_token cursor.old token.now work)
         (λ callers. reached_by_progress cursor.new token.now callers result) }
-    ensures quiet { IsQuiet (cursor_of cursor.old) → takes_nothing_in cursor.old.text.now token.now ≡ true
+    ensures quiet { IsQuiet cursor.old.text.profile (cursor_of cursor.old) → takes_nothing_in cursor.old.text.bytes.now token.now ≡ true
         → ProgressesQuietly cursor.new result }
     ensures stays { ProgressStays cursor.old cursor.new result }
     ensures stood { OnDone result (λ f. OnLast f steps.new.done (λ k. k ≡ steps.old.done)) }
@@ -144,7 +144,7 @@ fn token_step<D: Desk, S: Stop, T: Terminal>(
     };
     let next = step_token(
         desk,
-        cursor.text,
+        cursor.text.bytes,
         token,
         context,
         &mut cursor.args,
@@ -173,7 +173,7 @@ fn block_step<D: Desk, S: Stop>(
     steps: &mut Steps,
     stop: &mut S,
 ) -> Flow
-    requires within { to ≤ length cursor.old.text.now }
+    requires within { to ≤ length cursor.old.text.bytes.now }
     requires opens { MayOpen block cursor.old.blocks }
     ensures text { cursor.new.text ≡ cursor.old.text }
     ensures counts { CountsSteps (S.answered stop.old) (S.answered stop.new) (result ≡ flow.Stop Lim)
@@ -200,7 +200,7 @@ fn block_step<D: Desk, S: Stop>(
 /// Goes on where a step of the token before the cursor has ended so.
 #[inline(always)]
 fn resume(cursor: &mut Cursor, token: &Token, next: Next) -> Progress
-    requires token { IsStepIn cursor.old.text.now token.now }
+    requires token { IsStepIn cursor.old.text.bytes.now token.now }
     requires finished { is_unfinished next ≡ false }
     requires no_call { (q : ℕ) → next ≡ Call q → ⊥ }
     ensures text { cursor.new.text ≡ cursor.old.text }
@@ -208,12 +208,12 @@ fn resume(cursor: &mut Cursor, token: &Token, next: Next) -> Progress
     ensures stays { ProgressStays cursor.old cursor.new result }
     ensures resumes { (s : State) (callers : List Caller) (now : Now)
         → Comes (ready_of (after_step_end token.now.modifiers
-        (item_of_kind cursor.old.text.now token.now.kind)
-        (end_of s (name_in cursor.old.text.now token.now) next)
-        (config cursor.old.text.now (cursor_of cursor.old) None callers now)))
+        (item_of_kind cursor.old.text.bytes.now token.now.kind)
+        (end_of s (name_in cursor.old.text.bytes.now token.now) next)
+        (config cursor.old.text.profile cursor.old.text.bytes.now (cursor_of cursor.old) None callers now)))
         now (reached_by_progress cursor.new token.now callers result) }
-    ensures quiet { (s : State) → IsQuiet (cursor_of cursor.old)
-        → is_plain (end_of s (name_in cursor.old.text.now token.now) next) ≡ true
+    ensures quiet { (s : State) → IsQuiet cursor.old.text.profile (cursor_of cursor.old)
+        → is_plain (end_of s (name_in cursor.old.text.bytes.now token.now) next) ≡ true
         → ProgressesQuietly cursor.new result }
 {
     match next {
@@ -253,7 +253,7 @@ fn iteration_is_seen(cursor: &Cursor, token: &Token) -> bool
 /// Whether a plain `;` comes next, where the token looks around.
 #[inline(always)]
 fn leave_is_seen(cursor: &Cursor, token: &Token) -> bool
-    ensures { looks_around token.now.kind ≡ true → result ≡ leave_is_next (scan (cursor_of cursor.now).left) }
+    ensures { looks_around token.now.kind ≡ true → result ≡ leave_is_next (scan cursor.now.text.profile (cursor_of cursor.now).left) }
 {
     looks_around(token) && cursor.leave_is_next()
 }

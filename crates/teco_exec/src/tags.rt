@@ -1,5 +1,6 @@
 //! Tags that come one after the other are passed at once.
 ghost use Rattle.std.specs.Prelude.{◌≡◌, ◌≤◌, IfSome, drop, false, length, true};
+ghost use Rattle.teco_core.specs.declared.profile.Profile.{Profile};
 ghost use Rattle.teco_scan.specs.Scan.{scan};
 ghost use Rattle.teco_scan.specs.Seen.{IsFoundAt, found_in};
 ghost use Rattle.teco_exec.specs.CursorMoves as machine;
@@ -14,7 +15,7 @@ use teco_scan::{Form, Found, TokenKind, block_laws, filler_end, lead, tag_token}
 #[inline(always)]
 fn tag_at(text: &[u8], at: usize) -> Option<Found>
     requires { at ≤ length text.now }
-    ensures read { IfSome result (λ found. found_in text.now found ≡ scan (drop at text.now)) }
+    ensures read { IfSome result (λ found. (p : Profile) → found_in text.now found ≡ scan p (drop at text.now)) }
     ensures place { IfSome result (λ found. IsFoundAt text.now at found) }
 {
     let from = filler_end(text, at);
@@ -31,11 +32,11 @@ impl<'t> Cursor<'t> {
     /// Passes what was found here, if it is a tag, and says whether it is.
     #[inline(always)]
     fn pass_tag(&mut self, found: &Found) -> bool
-        requires read { found_in self.old.text.now found.now ≡ scan (drop self.old.at self.old.text.now) }
-        requires place { IsFoundAt self.old.text.now self.old.at found.now }
+        requires read { found_in self.old.text.bytes.now found.now ≡ scan self.old.text.profile (drop self.old.at self.old.text.bytes.now) }
+        requires place { IsFoundAt self.old.text.bytes.now self.old.at found.now }
         ensures text { self.new.text ≡ self.old.text }
         ensures passed { result ≡ true
-            → coming_of self.new found.now coming.Passed ≡ machine.pass (cursor self.old) }
+            → coming_of self.new found.now coming.Passed ≡ machine.pass self.old.text.profile (cursor self.old) }
         ensures stays { result ≡ false → self.new ≡ self.old }
     {
         let Found::Token(token) = found else {
@@ -55,7 +56,7 @@ impl<'t> Cursor<'t> {
     {
         block_laws();
         'tags: loop {
-            let Some(found) = tag_at(self.text, self.at) else {
+            let Some(found) = tag_at(self.text.bytes, self.at) else {
                 return;
             };
             if !self.pass_tag(&found) {

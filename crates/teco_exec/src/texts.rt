@@ -24,6 +24,7 @@ use crate::watch::Watch;
 use std::alloc::Global;
 use teco_core::{Args, BLOCK_LIMIT, CALL_LIMIT, Code, Reg};
 use teco_io::Terminal;
+use teco_scan::Text;
 use teco_store::Desk;
 
 /// The room for the open blocks of a text. What is in it means nothing before a block is opened.
@@ -61,7 +62,7 @@ struct CallSite {
 #[inline(always)]
 fn run_text<D: Desk, S: Stop, T: Terminal, W: Watch>(
     desk: &mut D,
-    text: &[u8],
+    text: Text,
     args: &mut Args,
     rooms: &mut [Room],
     running: &mut Running<W>,
@@ -73,12 +74,12 @@ fn run_text<D: Desk, S: Stop, T: Terminal, W: Watch>(
         running.old.steps running.new.steps }
     ensures depth { running.new.depth ≡ running.old.depth }
     ensures leads { RunLeadsAt D.Desk T.Terminal running.old.depth (desk.old, term.old, running.old.steps)
-        (desk.new, term.new, running.new.steps) (at_beginning (arguments args.old) text.now) (λ callers. reached_by_exit (arguments args.new) callers result) }
-    ensures no_memory { takes_no_memory (nodes text.now) ≡ true → code_left result ≡ Some Mem → ⊥ }
+        (desk.new, term.new, running.new.steps) (at_beginning text.entry.profile (arguments args.old) text.entry.bytes.now) (λ callers. reached_by_exit text.entry.profile (arguments args.new) callers result) }
+    ensures no_memory { takes_no_memory (nodes text.entry.profile text.entry.bytes.now) ≡ true → code_left result ≡ Some Mem → ⊥ }
     ensures told { W.knows running.old.watch None → Tells (W.knows running.new.watch) result running.new.steps.done
-        (StandsFrom D.Desk T.Terminal running.old.depth (desk.old, term.old, running.old.steps) (at_beginning (arguments args.old) text.now)) }
-    ensures visits { KeepsWatch D.Desk T.Terminal W.follows running.old.depth (desk.old, term.old, running.old.steps)
-        (at_beginning (arguments args.old) text.now) running.old.watch running.new.watch running.new.steps.done }
+        (StandsFrom D.Desk T.Terminal running.old.depth (desk.old, term.old, running.old.steps) (at_beginning text.entry.profile (arguments args.old) text.entry.bytes.now)) }
+    ensures visits { KeepsWatch text.entry.profile D.Desk T.Terminal W.follows running.old.depth (desk.old, term.old, running.old.steps)
+        (at_beginning text.entry.profile (arguments args.old) text.entry.bytes.now) running.old.watch running.new.watch running.new.steps.done }
 {
     if rooms.is_empty() {
         return run_apart(desk, text, args, running, stop, term);
@@ -91,7 +92,7 @@ fn run_text<D: Desk, S: Stop, T: Terminal, W: Watch>(
 #[inline(never)]
 fn run_apart<D: Desk, S: Stop, T: Terminal, W: Watch>(
     desk: &mut D,
-    text: &[u8],
+    text: Text,
     args: &mut Args,
     running: &mut Running<W>,
     stop: &mut S,
@@ -102,12 +103,12 @@ fn run_apart<D: Desk, S: Stop, T: Terminal, W: Watch>(
         running.old.steps running.new.steps }
     ensures depth { running.new.depth ≡ running.old.depth }
     ensures leads { RunLeadsAt D.Desk T.Terminal running.old.depth (desk.old, term.old, running.old.steps)
-        (desk.new, term.new, running.new.steps) (at_beginning (arguments args.old) text.now) (λ callers. reached_by_exit (arguments args.new) callers result) }
-    ensures no_memory { takes_no_memory (nodes text.now) ≡ true → code_left result ≡ Some Mem → ⊥ }
+        (desk.new, term.new, running.new.steps) (at_beginning text.entry.profile (arguments args.old) text.entry.bytes.now) (λ callers. reached_by_exit text.entry.profile (arguments args.new) callers result) }
+    ensures no_memory { takes_no_memory (nodes text.entry.profile text.entry.bytes.now) ≡ true → code_left result ≡ Some Mem → ⊥ }
     ensures told { W.knows running.old.watch None → Tells (W.knows running.new.watch) result running.new.steps.done
-        (StandsFrom D.Desk T.Terminal running.old.depth (desk.old, term.old, running.old.steps) (at_beginning (arguments args.old) text.now)) }
-    ensures visits { KeepsWatch D.Desk T.Terminal W.follows running.old.depth (desk.old, term.old, running.old.steps)
-        (at_beginning (arguments args.old) text.now) running.old.watch running.new.watch running.new.steps.done }
+        (StandsFrom D.Desk T.Terminal running.old.depth (desk.old, term.old, running.old.steps) (at_beginning text.entry.profile (arguments args.old) text.entry.bytes.now)) }
+    ensures visits { KeepsWatch text.entry.profile D.Desk T.Terminal W.follows running.old.depth (desk.old, term.old, running.old.steps)
+        (at_beginning text.entry.profile (arguments args.old) text.entry.bytes.now) running.old.watch running.new.watch running.new.steps.done }
 {
     let mut rooms = [EMPTY_ROOM; ROOMS];
     run_in(desk, text, args, &mut rooms, running, stop, term)
@@ -117,7 +118,7 @@ fn run_apart<D: Desk, S: Stop, T: Terminal, W: Watch>(
 #[cycle(run_text)]
 pub(crate) fn run_in<D: Desk, S: Stop, T: Terminal, W: Watch>(
     desk: &mut D,
-    text: &[u8],
+    text: Text,
     args: &mut Args,
     rooms: &mut [Room],
     running: &mut Running<W>,
@@ -130,12 +131,12 @@ pub(crate) fn run_in<D: Desk, S: Stop, T: Terminal, W: Watch>(
         running.old.steps running.new.steps }
     ensures depth { running.new.depth ≡ running.old.depth }
     ensures leads { RunLeadsAt D.Desk T.Terminal running.old.depth (desk.old, term.old, running.old.steps)
-        (desk.new, term.new, running.new.steps) (at_beginning (arguments args.old) text.now) (λ callers. reached_by_exit (arguments args.new) callers result) }
-    ensures no_memory { takes_no_memory (nodes text.now) ≡ true → code_left result ≡ Some Mem → ⊥ }
+        (desk.new, term.new, running.new.steps) (at_beginning text.entry.profile (arguments args.old) text.entry.bytes.now) (λ callers. reached_by_exit text.entry.profile (arguments args.new) callers result) }
+    ensures no_memory { takes_no_memory (nodes text.entry.profile text.entry.bytes.now) ≡ true → code_left result ≡ Some Mem → ⊥ }
     ensures told { W.knows running.old.watch None → Tells (W.knows running.new.watch) result running.new.steps.done
-        (StandsFrom D.Desk T.Terminal running.old.depth (desk.old, term.old, running.old.steps) (at_beginning (arguments args.old) text.now)) }
-    ensures visits { KeepsWatch D.Desk T.Terminal W.follows running.old.depth (desk.old, term.old, running.old.steps)
-        (at_beginning (arguments args.old) text.now) running.old.watch running.new.watch running.new.steps.done }
+        (StandsFrom D.Desk T.Terminal running.old.depth (desk.old, term.old, running.old.steps) (at_beginning text.entry.profile (arguments args.old) text.entry.bytes.now)) }
+    ensures visits { KeepsWatch text.entry.profile D.Desk T.Terminal W.follows running.old.depth (desk.old, term.old, running.old.steps)
+        (at_beginning text.entry.profile (arguments args.old) text.entry.bytes.now) running.old.watch running.new.watch running.new.steps.done }
 {
     let Some((room, rooms)) = rooms.split_first_mut() else {
         unreachable!();
@@ -182,7 +183,7 @@ fn step_watched<D: Desk, S: Stop, T: Terminal, W: Watch>(
         (desk.old, term.old, running.old.steps) (desk.new, term.new, running.new.steps) cursor.old cursor.new result }
     ensures depth { running.new.depth ≡ running.old.depth }
     ensures knows { (p : Option Told) → W.knows running.old.watch p → W.knows running.new.watch p }
-    ensures visits { KeepsWatch D.Desk T.Terminal W.follows running.old.depth (desk.old, term.old, running.old.steps)
+    ensures visits { KeepsWatch cursor.old.text.profile D.Desk T.Terminal W.follows running.old.depth (desk.old, term.old, running.old.steps)
         (at_cursor cursor.old) running.old.watch running.new.watch running.new.steps.done }
 {
     let at = cursor.at;
@@ -209,9 +210,9 @@ fn run_called<D: Desk, S: Stop, T: Terminal, W: Watch>(
     term: &mut T,
 ) -> Exit
     requires deep { running.old.depth ≤ CALL_LIMIT }
-    requires token { IsReadAt cursor.old.text.now site.at (Some (call_token site.register))
+    requires token { IsReadAt cursor.old.text.profile cursor.old.text.bytes.now site.at (Some (call_token site.register))
         (cursor_of cursor.old).left }
-    requires within { site.at ≤ length cursor.old.text.now }
+    requires within { site.at ≤ length cursor.old.text.bytes.now }
     ensures text { cursor.new.text ≡ cursor.old.text }
     ensures left { (cursor_of cursor.new).left ≡ (cursor_of cursor.old).left }
     ensures more { result ≡ exit.Return → running.old.steps.done < running.new.steps.done }
@@ -224,7 +225,7 @@ fn run_called<D: Desk, S: Stop, T: Terminal, W: Watch>(
     ensures told { W.knows running.old.watch None → Tells (W.knows running.new.watch) result running.new.steps.done
         (StandsFrom D.Desk T.Terminal running.old.depth (desk.old, term.old, running.old.steps)
         (at_register_call cursor.old site.register)) }
-    ensures visits { KeepsWatch D.Desk T.Terminal W.follows running.old.depth (desk.old, term.old, running.old.steps)
+    ensures visits { KeepsWatch cursor.old.text.profile D.Desk T.Terminal W.follows running.old.depth (desk.old, term.old, running.old.steps)
         (at_register_call cursor.old site.register) running.old.watch running.new.watch running.new.steps.done }
 {
     if running.steps.are_over(stop) {
@@ -269,10 +270,10 @@ fn run_called<D: Desk, S: Stop, T: Terminal, W: Watch>(
 /// Tells the watch of a call, where the text that was called has ended the run by a code.
 #[inline(always)]
 fn tell_call<W: Watch>(exit: Exit, site: CallSite, cursor: &Cursor, watch: &mut W)
-    requires { site.at ≤ length cursor.now.text.now }
+    requires { site.at ≤ length cursor.now.text.bytes.now }
     ensures none { code_left exit ≡ None → watch.new ≡ watch.old }
     ensures some { is_some (code_left exit) ≡ true → (p : Told) → W.knows watch.old (Some p)
-        → (to : ℕ) × IsTokenPlace cursor.now.text.now site.at to
+        → (to : ℕ) × IsTokenPlace cursor.now.text.bytes.now site.at to
         × W.knows watch.new (Some (with_call p site.register to (cursor_of cursor.now).blocks)) }
     ensures follows { (sought : Wanted) (done : ℕ) → W.follows watch.old sought done → W.follows watch.new sought done }
 {
@@ -315,7 +316,11 @@ fn run_copy<D: Desk, S: Stop, T: Terminal, W: Watch>(
     running.steps.count();
     desk.step_done(running.steps.done);
     running.depth += 1;
-    let exit = run_text(desk, called, &mut cursor.args, rooms, running, stop, term);
+    let text = Text {
+        profile: cursor.text.profile,
+        bytes: called,
+    };
+    let exit = run_text(desk, text, &mut cursor.args, rooms, running, stop, term);
     running.depth -= 1;
     exit
 }

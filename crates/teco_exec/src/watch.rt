@@ -23,23 +23,23 @@ pub trait Watch {
     /// The steps of a run from the one to the other, which is not among them, come at a place of this text, with so many calls open. It
     /// may be that some of them aren't done.
     fn stepped(&mut self, old: u64, new: u64, calls: usize, at: usize, cursor: &Cursor)
-        requires within { at ≤ length cursor.now.text.now }
+        requires within { at ≤ length cursor.now.text.bytes.now }
         requires order { old ≤ new }
         ensures knows { (p : Option Told) → knows self.old p → knows self.new p }
-        ensures follows { (sought : Wanted) (done : ℕ) → StoodThrough sought old new calls cursor.now.text.now at
+        ensures follows { (sought : Wanted) (done : ℕ) → StoodThrough sought old new calls cursor.now.text.bytes.now at
             → follows self.old sought old → old ≤ done → done ≤ new → follows self.new sought done };
 
     /// After so many steps the run stood at a place of this text, and then it stopped or its step failed.
     fn stood(&mut self, steps: u64, at: usize, cursor: &Cursor)
-        requires { at ≤ length cursor.now.text.now }
-        ensures told { knows self.old None → (to : ℕ) × IsTokenPlace cursor.now.text.now at to
-            × knows self.new (Some (told_here steps cursor.now.text.now to (cursor_of cursor.now).blocks)) }
+        requires { at ≤ length cursor.now.text.bytes.now }
+        ensures told { knows self.old None → (to : ℕ) × IsTokenPlace cursor.now.text.bytes.now at to
+            × knows self.new (Some (told_here cursor.now.text.profile steps cursor.now.text.bytes.now to (cursor_of cursor.now).blocks)) }
         ensures follows { (sought : Wanted) (done : ℕ) → follows self.old sought done → follows self.new sought done };
 
     /// That was in the text of this register, which is called at a place of this text.
     fn called(&mut self, register: Reg, at: usize, cursor: &Cursor)
-        requires { at ≤ length cursor.now.text.now }
-        ensures told { (p : Told) → knows self.old (Some p) → (to : ℕ) × IsTokenPlace cursor.now.text.now at to
+        requires { at ≤ length cursor.now.text.bytes.now }
+        ensures told { (p : Told) → knows self.old (Some p) → (to : ℕ) × IsTokenPlace cursor.now.text.bytes.now at to
             × knows self.new (Some (with_call p register to (cursor_of cursor.now).blocks)) }
         ensures follows { (sought : Wanted) (done : ℕ) → follows self.old sought done → follows self.new sought done };
 }
@@ -143,8 +143,8 @@ impl Watch for Watched {
         match cursor.blocks.turns(self.alloc) {
             Ok(turns) => {
                 self.place.steps = steps;
-                self.place.at = filler_end(cursor.text, at);
-                self.place.fault = first_fault(cursor.text);
+                self.place.at = filler_end(cursor.text.bytes, at);
+                self.place.fault = first_fault(cursor.text.profile, cursor.text.bytes);
                 self.place.turns = turns;
             }
             Err(_) => self.lacks_memory = true,
@@ -156,7 +156,7 @@ impl Watch for Watched {
             Ok(turns) => {
                 let call = Call {
                     register,
-                    at: filler_end(cursor.text, at),
+                    at: filler_end(cursor.text.bytes, at),
                     turns,
                 };
                 if self.place.calls.push(call).is_err() {

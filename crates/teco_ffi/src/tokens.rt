@@ -1,4 +1,5 @@
 //! What stands at a place of a text.
+ghost use Rattle.teco_core.specs.declared.profile.Profile.TheVariants.{Named};
 ghost use Rattle.std.specs.Prelude.{◌≡◌, ◌≤◌, drop, length};
 ghost use Rattle.teco_scan.specs.Scan.{after_fillers, scan};
 ghost use Rattle.teco_scan.specs.Seen.{IsKindIn, instruction_in};
@@ -6,6 +7,7 @@ ghost use Rattle.teco_ffi.specs.Tokens.{after_token, instruction_text, last_text
 
 use crate::answers::NO_TOKEN;
 use crate::token_kinds::number_of_token;
+use teco_core::Profile;
 use teco_scan::{Found, Item, Span, TokenKind, filler_end, token_at};
 
 /// What is told of what stands at a place of a text.
@@ -36,11 +38,11 @@ fn text_size(text: &[u8], kind: TokenKind) -> usize
 
 /// Tells what stands at a place of a text after fillers, as `teco_token` of the library for C does. Takes no memory.
 pub fn tell_token(text: &[u8], at: usize, told: &mut ToldToken) -> u8
-    ensures answer { result ≡ token_answer (scan (drop at text.now)) }
+    ensures answer { result ≡ token_answer (scan Named (drop at text.now)) }
     ensures from { drop told.new.from text.now ≡ after_fillers (drop at text.now) }
-    ensures to { drop told.new.to text.now ≡ after_token (scan (drop at text.now)) }
-    ensures kind { told.new.kind ≡ token_kind (scan (drop at text.now)) }
-    ensures size { told.new.size ≡ length (last_text (scan (drop at text.now))) }
+    ensures to { drop told.new.to text.now ≡ after_token (scan Named (drop at text.now)) }
+    ensures kind { told.new.kind ≡ token_kind (scan Named (drop at text.now)) }
+    ensures size { told.new.size ≡ length (last_text (scan Named (drop at text.now))) }
     ensures within { (told.new.from ≤ told.new.to) × (told.new.to ≤ length text.now) }
 {
     let at = at.min(text.len());
@@ -48,7 +50,7 @@ pub fn tell_token(text: &[u8], at: usize, told: &mut ToldToken) -> u8
     told.to = text.len();
     told.kind = 0;
     told.size = 0;
-    match token_at(text, at) {
+    match token_at(Profile::Named, text, at) {
         Found::End => NO_TOKEN,
         Found::Fault(code) => code.number(),
         Found::Token(token) => {

@@ -1,6 +1,7 @@
 -- Misspelt texts: what the first fault of one says of it.
 use Rattle.std.proofs.Common.{◌≡◌, ◌≢◌, ◌<◌, ◌-◌, ◌⊎◌, inl, inr, ℕ, zero, suc, Bool, true, false, List, drop, Option, Some, None, refl, sym, ap, ◌∙◌, arith}
 use native.Mathlib.Numerals.{unary_clauses}
+use Rattle.teco_core.specs.declared.profile.Profile.TheVariants.{Named}
 use Rattle.teco_scan.specs.Scan.{scan}
 use Rattle.teco_check.specs.Walk.{first_within}
 use Rattle.teco_check.specs.declared.faults.Fault.{Fault}
@@ -30,7 +31,7 @@ by_unseen n code bytes first is (inr wrong) = by_first n code bytes (Some first)
 
 -- a fault in a text that is looked into, or in one that is too deep
 pub by_inner : (n : ℕ) (code : List Bool) (bytes : List ℕ) (first : Fault) → Some first ≡ first_within n code bytes → first.wrong ≡ wrongs.InText
-    → 0 < n → misspelt_within n code bytes ≡ misspelt_within (n - 1) code (put_first (scan (drop first.at bytes)))
+    → 0 < n → misspelt_within n code bytes ≡ misspelt_within (n - 1) code (put_first (scan Named (drop first.at bytes)))
 unfolding misspelt_within within_text
 by_inner zero code bytes first is wrong h = absurd (omega arith)
 by_inner (suc n) code bytes first is wrong h =

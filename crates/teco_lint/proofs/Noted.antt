@@ -4,6 +4,7 @@ use Rattle.std.proofs.lemmas.Bool.{cases_lt}
 use Rattle.std.proofs.lemmas.List.{drop_all, drop-drop, get_or-replicate, get_or_past, length-replicate}
 use Rattle.teco_core.specs.declared.code.Code.{Code}
 use Rattle.teco_core.specs.Register.{Content, content}
+use Rattle.teco_core.specs.declared.profile.Profile.TheVariants.{Named}
 use Rattle.teco_scan.specs.Scan.{TokenMeaning, Instruction, found, fault, ended, scan, after_fillers}
 use Rattle.teco_check.specs.Checked.{held}
 use Rattle.teco_lint.specs.Calls.{AllAreCalled, AnyCalls, AnyCallsWithin, AreCalledOver, Calls, CallsWithin, MayCall, Notes, called_by_register, called_by_string, register_call, calls_first, calls_later, calls_past_fault, within_first, within_text, within_later, within_past_fault}
@@ -33,7 +34,7 @@ alone P W P1 W1 a b cut inside part = record {
 pub none_noted : (P W : ℕ → Type 0) (a : List Bool) → ((q : ℕ) → P q → ⊥) → Notes P W a a
 none_noted P W a none = record { kept = λ q h. h; all = λ q p. absurd (none q p); only = λ q h. inl h }
 
-calls_found : (q : ℕ) (bs rest : List ℕ) (t : TokenMeaning) → scan bs ≡ found t rest → Calls q bs → (t.instruction ≡ register_call q) ⊎ Calls q rest
+calls_found : (q : ℕ) (bs rest : List ℕ) (t : TokenMeaning) → scan Named bs ≡ found t rest → Calls q bs → (t.instruction ≡ register_call q) ⊎ Calls q rest
 calls_found q bs rest t is (calls_first {rest = other} {t = token} was calls) =
     let same : found token other ≡ found t rest = sym was ∙ is in
     let e : token ≡ t = cc in
@@ -46,7 +47,7 @@ calls_found q bs rest t is (calls_past_fault {c = code} was calls) =
     let same : fault code ≡ found t rest = sym was ∙ is in
     absurd (let no : ⊥ = cc in no)
 
-calls_fault : (q : ℕ) (bs : List ℕ) (c : Code) → scan bs ≡ fault c → Calls q bs → Calls q (drop 1 (after_fillers bs))
+calls_fault : (q : ℕ) (bs : List ℕ) (c : Code) → scan Named bs ≡ fault c → Calls q bs → Calls q (drop 1 (after_fillers bs))
 calls_fault q bs c is (calls_first {rest = other} {t = token} was calls) =
     let same : found token other ≡ fault c = sym was ∙ is in
     absurd (let no : ⊥ = cc in no)
@@ -55,7 +56,7 @@ calls_fault q bs c is (calls_later {rest = other} {t = token} was calls) =
     absurd (let no : ⊥ = cc in no)
 calls_fault q bs c is (calls_past_fault was calls) = calls
 
-calls_ended : (q : ℕ) (bs : List ℕ) → scan bs ≡ ended → Calls q bs → ⊥
+calls_ended : (q : ℕ) (bs : List ℕ) → scan Named bs ≡ ended → Calls q bs → ⊥
 calls_ended q bs is (calls_first {rest = other} {t = token} was calls) =
     let same : found token other ≡ ended = sym was ∙ is in
     cc
@@ -74,30 +75,30 @@ OfBytes bs a b = Notes (λ q. Calls q bs) (λ q. CallsWithin q bs) a b
 abbrev pub OfToken : Instruction → List Bool → List Bool → Type 0
 OfToken i a b = Notes (λ q. i ≡ register_call q) (MayCall i) a b
 
-may_first : (q : ℕ) (bs rest : List ℕ) (t : TokenMeaning) → scan bs ≡ found t rest → MayCall t.instruction q → CallsWithin q bs
+may_first : (q : ℕ) (bs rest : List ℕ) (t : TokenMeaning) → scan Named bs ≡ found t rest → MayCall t.instruction q → CallsWithin q bs
 may_first q bs rest t is (inl calls) = within_first is calls
 may_first q bs rest t is (inr puts) = within_text is puts.2 puts.3
 
 -- a token, and the bytes after it
-pub token_noted : (bs rest : List ℕ) (t : TokenMeaning) (a b c : List Bool) → scan bs ≡ found t rest
+pub token_noted : (bs rest : List ℕ) (t : TokenMeaning) (a b c : List Bool) → scan Named bs ≡ found t rest
     → OfToken t.instruction a b → OfBytes rest b c → OfBytes bs a c
 token_noted bs rest t a b c is first later = joined (λ q. Calls q bs) (λ q. CallsWithin q bs)
     (λ q. t.instruction ≡ register_call q) (MayCall t.instruction) (λ q. Calls q rest) (λ q. CallsWithin q rest) a b c
     (λ q calls. calls_found q bs rest t is calls) (λ q may. may_first q bs rest t is may) (λ q within. within_later is within) first later
 
 -- no token can be read
-pub fault_noted : (bs : List ℕ) (code : Code) (a c : List Bool) → scan bs ≡ fault code → OfBytes (drop 1 (after_fillers bs)) a c → OfBytes bs a c
+pub fault_noted : (bs : List ℕ) (code : Code) (a c : List Bool) → scan Named bs ≡ fault code → OfBytes (drop 1 (after_fillers bs)) a c → OfBytes bs a c
 fault_noted bs code a c is later = alone (λ q. Calls q bs) (λ q. CallsWithin q bs)
     (λ q. Calls q (drop 1 (after_fillers bs))) (λ q. CallsWithin q (drop 1 (after_fillers bs))) a c
     (λ q calls. calls_fault q bs code is calls) (λ q within. within_past_fault is within) later
 
 -- no token is there
-pub end_noted : (bs : List ℕ) (a : List Bool) → scan bs ≡ ended → OfBytes bs a a
+pub end_noted : (bs : List ℕ) (a : List Bool) → scan Named bs ≡ ended → OfBytes bs a a
 end_noted bs a is = none_noted (λ q. Calls q bs) (λ q. CallsWithin q bs) a (λ q calls. calls_ended q bs is calls)
 
 pub nothing_noted : (bs : List ℕ) (a : List Bool) → bs ≡ [] → OfBytes bs a a
 unfolding scan after_fillers
-nothing_noted bs a is = end_noted bs a (ap scan is)
+nothing_noted bs a is = end_noted bs a (ap (scan Named) is)
 
 -- what is noted of strings
 abbrev pub OfStrings : List (List ℕ) → List Bool → List Bool → Type 0

@@ -2,6 +2,7 @@
 use Rattle.std.specs.Prelude.{◌≡◌, ◌⊎◌, ℕ, Bool, true, List, [], ◌∷◌, drop}
 use Rattle.teco_core.specs.declared.code.Code.{Code}
 use Rattle.teco_core.specs.Register.{Content, blank_registers, content}
+use Rattle.teco_core.specs.declared.profile.Profile.TheVariants.{Named}
 use Rattle.teco_scan.specs.declared.command.RegisterCommand.TheVariants.{Macro}
 use Rattle.teco_scan.specs.Scan.{TokenMeaning, Instruction, step, register, set_text, found, fault, scan, after_fillers}
 use Rattle.teco_check.specs.Checked.{held}
@@ -12,17 +13,17 @@ register_call q = step (register Macro q)
 
 -- A token of these bytes calls the register. Where none can be read, the tokens after one byte more are looked at.
 pub data Calls : ℕ → List ℕ → Type 0 where
-  calls_first : {q : ℕ} {bs rest : List ℕ} {t : TokenMeaning} → scan bs ≡ found t rest → t.instruction ≡ register_call q → Calls q bs
-  calls_later : {q : ℕ} {bs rest : List ℕ} {t : TokenMeaning} → scan bs ≡ found t rest → Calls q rest → Calls q bs
-  calls_past_fault : {q : ℕ} {bs : List ℕ} {c : Code} → scan bs ≡ fault c → Calls q (drop 1 (after_fillers bs)) → Calls q bs
+  calls_first : {q : ℕ} {bs rest : List ℕ} {t : TokenMeaning} → scan Named bs ≡ found t rest → t.instruction ≡ register_call q → Calls q bs
+  calls_later : {q : ℕ} {bs rest : List ℕ} {t : TokenMeaning} → scan Named bs ≡ found t rest → Calls q rest → Calls q bs
+  calls_past_fault : {q : ℕ} {bs : List ℕ} {c : Code} → scan Named bs ≡ fault c → Calls q (drop 1 (after_fillers bs)) → Calls q bs
 
 -- The same; or a token calls it of a text that one of these tokens puts into a register, and so on.
 pub data CallsWithin : ℕ → List ℕ → Type 0 where
-  within_first : {q : ℕ} {bs rest : List ℕ} {t : TokenMeaning} → scan bs ≡ found t rest → t.instruction ≡ register_call q → CallsWithin q bs
-  within_text : {q p : ℕ} {bs rest text : List ℕ} {t : TokenMeaning} → scan bs ≡ found t rest → t.instruction ≡ step (set_text p text)
+  within_first : {q : ℕ} {bs rest : List ℕ} {t : TokenMeaning} → scan Named bs ≡ found t rest → t.instruction ≡ register_call q → CallsWithin q bs
+  within_text : {q p : ℕ} {bs rest text : List ℕ} {t : TokenMeaning} → scan Named bs ≡ found t rest → t.instruction ≡ step (set_text p text)
       → CallsWithin q text → CallsWithin q bs
-  within_later : {q : ℕ} {bs rest : List ℕ} {t : TokenMeaning} → scan bs ≡ found t rest → CallsWithin q rest → CallsWithin q bs
-  within_past_fault : {q : ℕ} {bs : List ℕ} {c : Code} → scan bs ≡ fault c → CallsWithin q (drop 1 (after_fillers bs)) → CallsWithin q bs
+  within_later : {q : ℕ} {bs rest : List ℕ} {t : TokenMeaning} → scan Named bs ≡ found t rest → CallsWithin q rest → CallsWithin q bs
+  within_past_fault : {q : ℕ} {bs : List ℕ} {c : Code} → scan Named bs ≡ fault c → CallsWithin q (drop 1 (after_fillers bs)) → CallsWithin q bs
 
 -- One of the strings calls the register,
 abbrev pub AnyCalls : ℕ → List (List ℕ) → Type 0

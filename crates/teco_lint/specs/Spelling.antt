@@ -1,6 +1,7 @@
 -- Commands that are misspelt: they have a fault by which a run may end, of those that a check finds.
 use Rattle.std.specs.Prelude.{ℕ, zero, suc, Bool, true, false, List, [], drop, Option, Some, None, if◌then◌else◌}
 use Rattle.std.specs.List.{list_any}
+use Rattle.teco_core.specs.declared.profile.Profile.TheVariants.{Named}
 use Rattle.teco_scan.specs.Scan.{Instruction, Scanned, step, set_text, found, scan}
 use Rattle.teco_check.specs.Walk.{first_within}
 use Rattle.teco_check.specs.declared.faults.Fault.{Fault}
@@ -22,7 +23,7 @@ put_first scanned = []
 -- A run that comes to the fault ends by its code. A fault in a text that is put where code is counts if that text is misspelt. What
 -- no check looks into is not misspelt.
 abbrev pub misspelt_by : (List ℕ → Bool) → List ℕ → ℕ → Wrong → Bool
-misspelt_by inside bytes at wrongs.InText = inside (put_first (scan (drop at bytes)))
+misspelt_by inside bytes at wrongs.InText = inside (put_first (scan Named (drop at bytes)))
 misspelt_by inside bytes at wrongs.Calls = false
 misspelt_by inside bytes at wrongs.Loads = false
 misspelt_by inside bytes at wrong = true

@@ -7,7 +7,7 @@ ghost use Rattle.teco_lint.specs.Strings.{strings_of};
 
 use crate::cutting::string_end;
 use teco_check::{MOST_TEXTS, REGISTERS};
-use teco_core::{Reg, Registers};
+use teco_core::{Profile, Reg, Registers};
 use teco_scan::{Found, Item, RegisterCommand, Token, TokenKind, filler_end, token_at};
 
 /// The register at this place among the registers.
@@ -82,7 +82,7 @@ impl RegisterUses {
     {
         let mut at = 0;
         while at < text.len() {
-            match token_at(text, at) {
+            match token_at(Profile::Named, text, at) {
                 Found::Token(token) => {
                     at = token.span.to;
                     self.note_token(text, &token, texts);

@@ -7,7 +7,7 @@ use crate::passing::{part, pass_over};
 use crate::remarks::{FaultIn, Remark, What};
 use std::alloc::Global;
 use teco_check::{Fault, MOST_TEXTS, REGISTERS, Wrong, fault_of, first_fault_by_tags};
-use teco_core::NoMemory;
+use teco_core::{NoMemory, Profile};
 use teco_scan::{Found, Item, Span, TokenKind, token_at};
 
 /// The most faults of a command string that are told.
@@ -20,7 +20,7 @@ fn text_put(text: &[u8], fault: &FaultIn) -> Option<Span> {
     if at > inside.len() {
         return None;
     }
-    match token_at(inside, at) {
+    match token_at(Profile::Named, inside, at) {
         Found::Token(token) => match token.kind {
             TokenKind::Item(Item::SetText(_, span)) => Some(Span {
                 from: fault.inside.from.saturating_add(span.from),

@@ -5,7 +5,7 @@ ghost use Rattle.teco_lint.specs.Told.{IsTold};
 use crate::passing::part;
 use crate::remarks::{Hint, Remark, What};
 use teco_check::REGISTERS;
-use teco_core::{NoMemory, Reg};
+use teco_core::{NoMemory, Profile, Reg};
 use teco_messages::letter;
 use teco_scan::{
     Bare, BlockMark, Command, Found, Item, LevelCommand, RegisterCommand, Span, TextCommand, Token,
@@ -143,7 +143,7 @@ impl Hinting {
 fn has_jump(text: &[u8]) -> bool {
     let mut at = 0;
     while at < text.len() {
-        let Found::Token(token) = token_at(text, at) else {
+        let Found::Token(token) = token_at(Profile::Named, text, at) else {
             return false;
         };
         if let TokenKind::Item(Item::Text(TextCommand::Go, _)) = token.kind {
@@ -212,7 +212,7 @@ pub(crate) fn push_hints(
     hinting.begin(text);
     let mut at = 0;
     while at < text.len() {
-        let Found::Token(token) = token_at(text, at) else {
+        let Found::Token(token) = token_at(Profile::Named, text, at) else {
             return Ok(());
         };
         at = token.span.to;

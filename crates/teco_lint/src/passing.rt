@@ -6,7 +6,7 @@ use crate::naming::{modifiers_len, name_len, name_of};
 use crate::remarks::FaultIn;
 use memchr::memchr;
 use teco_check::Wrong;
-use teco_core::{Code, ESC};
+use teco_core::{Code, ESC, Profile};
 use teco_scan::{Found, Span, token_at};
 
 /// The bytes of a text between two places; none where it has no such places.
@@ -73,7 +73,7 @@ fn takes_after(name: &[u8]) -> Operands {
 
 /// How many bytes the token has that these begin with.
 fn token_len(bytes: &[u8]) -> usize {
-    match token_at(bytes, 0) {
+    match token_at(Profile::Named, bytes, 0) {
         Found::Token(token) => token.span.to,
         _ => 1,
     }

@@ -6,7 +6,7 @@ use crate::remarks::{FaultIn, Hint, Remark, What};
 use memchr::memchr;
 use std::fmt::Write;
 use teco_check::{MOST_TEXTS, Wrong};
-use teco_core::{BLOCK_LIMIT, Code, ESC, NoMemory};
+use teco_core::{BLOCK_LIMIT, Code, ESC, NoMemory, Profile};
 use teco_messages::{Spot, spell_token, token};
 use teco_scan::{Found, Item, TokenKind, token_at};
 
@@ -40,7 +40,10 @@ fn show_modifiers(out: &mut String, bytes: &[u8], modifiers: usize) -> Result<()
 
 /// Whether a command could be read but for its modifiers.
 fn is_known(bytes: &[u8]) -> bool {
-    !matches!(token_at(bytes, 0), Found::Fault(Code::Ill) | Found::End)
+    !matches!(
+        token_at(Profile::Named, bytes, 0),
+        Found::Fault(Code::Ill) | Found::End
+    )
 }
 
 /// Says why no command is there.
@@ -131,7 +134,7 @@ fn show_stray(
 
 /// The name of the tag that a jump goes to, where the jump begins the bytes.
 fn tag_name(bytes: &[u8]) -> &[u8] {
-    match token_at(bytes, 0) {
+    match token_at(Profile::Named, bytes, 0) {
         Found::Token(token) => match token.kind {
             TokenKind::Item(Item::Text(_, span)) => part(bytes, span),
             _ => &[],

@@ -1,4 +1,5 @@
 //! Commands by which a run ends where it comes to a fault of them.
+ghost use Rattle.teco_core.specs.declared.profile.Profile.TheVariants.{Named};
 ghost use Rattle.std.specs.Prelude.{◌≡◌, ◌≤◌, length, drop};
 ghost use Rattle.teco_scan.specs.Scan.{scan};
 ghost use Rattle.teco_lint.specs.Spelling.{is_misspelt, is_misspelt_string, is_misspelt_text, put_first};
@@ -7,16 +8,17 @@ use crate::cutting::string_end;
 use crate::requests::is_request;
 use std::alloc::Global;
 use teco_check::{MOST_TEXTS, REGISTERS, Wrong, first_fault_by_tags};
+use teco_core::Profile;
 use teco_scan::{Found, Item, TokenKind, token_at};
 
 /// The text that the token at a place puts into a register; nothing where it puts none.
 fn text_put(text: &[u8], at: usize) -> &[u8]
-    ensures { result.now ≡ put_first (scan (drop at text.now)) }
+    ensures { result.now ≡ put_first (scan Named (drop at text.now)) }
 {
     if at > text.len() {
         return &[];
     }
-    match token_at(text, at) {
+    match token_at(Profile::Named, text, at) {
         Found::Token(token) => match token.kind {
             TokenKind::Item(Item::SetText(_, span)) => &text[span.from..span.to],
             _ => &[],

@@ -5,6 +5,7 @@ use Rattle.teco_core.specs.Code.{letters_of, number_of}
 use Rattle.teco_core.specs.Register.{Content}
 use Rattle.teco_core.specs.declared.code.Code.{Code}
 use Rattle.teco_core.specs.declared.code.Code.TheVariants.{Pdo, Tag}
+use Rattle.teco_core.specs.declared.profile.Profile.TheVariants.{Named}
 use Rattle.teco_scan.specs.Scan.{Item, Scanned, found, scan}
 use Rattle.teco_scan.specs.Scan as token
 use Rattle.teco_scan.specs.declared.command.Arithmetic.TheVariants as arithmetic
@@ -36,7 +37,7 @@ is_opening s = false
 -- A `;` that ends so has met it in the rest that it skips.
 abbrev pub meets : List ℕ → ℕ → Code → Code → Bool
 meets text at fault Tag = true
-meets text at fault Pdo = (number_of fault == number_of Pdo) && not (is_opening (scan (drop at text)))
+meets text at fault Pdo = (number_of fault == number_of Pdo) && not (is_opening (scan Named (drop at text)))
 meets text at fault code = number_of fault == number_of code
 
 -- the code of a fault, where it isn't the one that is told

@@ -1,4 +1,5 @@
 //! Why a run stopped.
+ghost use Rattle.teco_core.specs.declared.profile.Profile.TheVariants.{Named};
 ghost use Rattle.std.specs.Prelude.{◌≡◌, ◌++◌, List, ℕ, Option, Some, None, OnOk, codes, drop, length, option_copied};
 ghost use Rattle.std.specs.String.{string_bytes};
 ghost use Rattle.teco_scan.specs.Scan.{scan};
@@ -13,7 +14,7 @@ use crate::sentence::{Limits, show_code, show_code_with_limits};
 use crate::spelling::spell_token;
 use crate::tokens::token;
 use std::fmt::Write;
-use teco_core::{Code, NoMemory, Registers};
+use teco_core::{Code, NoMemory, Profile, Registers};
 use teco_exec::Place;
 use teco_scan::{Arithmetic, Bare, Found, Item, ListFault, RegisterCommand, TokenKind, token_at};
 
@@ -33,12 +34,12 @@ fn opens(item: Item) -> bool
 
 /// Whether a step that opens or pushes comes at a place. Past its limit it ends by PDO itself.
 fn is_opening(text: &[u8], at: usize) -> bool
-    ensures { result ≡ is_opening (scan (drop at text.now)) }
+    ensures { result ≡ is_opening (scan Named (drop at text.now)) }
 {
     if at > text.len() {
         return false;
     }
-    match token_at(text, at) {
+    match token_at(Profile::Named, text, at) {
         Found::Token(token) => match token.kind {
             TokenKind::Item(item) => opens(item),
             _ => false,

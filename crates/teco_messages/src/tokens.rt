@@ -2,7 +2,7 @@
 ghost use Rattle.std.specs.Prelude.{◌≡◌, ◌<◌, true};
 ghost use Rattle.teco_messages.specs.Token.{ends_word, token_in, word_len};
 
-use teco_core::{ESC, is_filler};
+use teco_core::{ESC, Profile, is_filler};
 use teco_scan::{Found, token_at};
 
 /// Whether a byte ends what is shown where no token is: a filler or an ESC.
@@ -30,7 +30,7 @@ pub fn token(text: &[u8], at: usize, most: usize) -> &[u8]
     if at > text.len() {
         return &[];
     }
-    match token_at(text, at) {
+    match token_at(Profile::Named, text, at) {
         Found::Token(token) => &text[token.span.from..token.span.to],
         Found::End => &[],
         Found::Fault(_) => {

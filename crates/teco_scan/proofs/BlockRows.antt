@@ -3,6 +3,7 @@ use Rattle.std.specs.Prelude.{◌≡◌, ℕ, zero, suc, true, [], replicate, �
 use Rattle.std.proofs.Common.{refl}
 use Prim.Native.String.{String}
 use Rattle.teco_core.specs.declared.code.Code.TheVariants.{Bni, Ill, Iqn, Iqc, Pdo, Utc}
+use Rattle.teco_core.specs.declared.profile.Profile.TheVariants.{Named}
 use Rattle.teco_scan.specs.declared.command.Bare.TheVariants as group
 use Rattle.teco_scan.specs.declared.command.Command.TheVariants.{Jump, Leave}
 use Rattle.teco_scan.specs.declared.command.TextCommand.TheVariants.{Insert, Go}
@@ -27,7 +28,7 @@ abbrev leave : Nodes → Nodes
 leave n = plain (bare (group.Command Leave)) n
 
 abbrev grows : String → Nodes → Type 0
-grows written n = nodes (keys written) ≡ n
+grows written n = nodes Named (keys written) ≡ n
 
 -- iterations, and conditionals with and without a second part
 blocks : grows "<J>2" (iter (jump done) (number "2" done))
@@ -87,22 +88,22 @@ around zero n = n
 around (suc k) n = iter (around k n) done
 
 -- 64 blocks may be open, and the 65th is PDO
-depth : (nodes (replicate 64 60 ++ codes "J" ++ replicate 64 62) ≡ around 64 (jump done))
-    × (nodes (replicate 65 60) ≡ nested 64 (faulty Pdo))
+depth : (nodes Named (replicate 64 60 ++ codes "J" ++ replicate 64 62) ≡ around 64 (jump done))
+    × (nodes Named (replicate 65 60) ≡ nested 64 (faulty Pdo))
 unfolding computing_trees nested around
 depth = (refl, refl)
 
 -- what comes after the first tag of a name that is directly in the list, and its bytes
-tags : (after_tag (codes "x") (nodes (keys "1!x!2!x!3")) ≡ Some (number "2" (tag (codes "x") (number "3" done))))
-    × (after_tag (codes "x") (nodes (keys "<!x!>2!x!J")) ≡ Some (jump done))
-    × (after_tag (codes "x") (nodes (keys "1\"E!x!|!x!'2!x!J")) ≡ Some (jump done))
-    × (after_tag (codes "x") (nodes (keys "!X!!xx!!!2")) ≡ None)
-    × (after_tag [] (nodes (keys "!X!!!2")) ≡ Some (number "2" done))
-    × (after_tag (codes "x") (nodes (keys "?!x!")) ≡ None)
-    × (after_tag (codes "x") (nodes (keys "<!x!")) ≡ None)
-    × (tag_at (codes "x") 1 (keys "1!x!2>3") ≡ Some (codes "2>3"))
-    × (tag_at (codes "x") 1 (keys "1>!x!3") ≡ None)
-    × (tag_at (codes "x") 1 (keys "1|!x!'3") ≡ None)
-    × (tag_at (codes "x") 1 (keys "!x!'3") ≡ Some (codes "'3"))
+tags : (after_tag (codes "x") (nodes Named (keys "1!x!2!x!3")) ≡ Some (number "2" (tag (codes "x") (number "3" done))))
+    × (after_tag (codes "x") (nodes Named (keys "<!x!>2!x!J")) ≡ Some (jump done))
+    × (after_tag (codes "x") (nodes Named (keys "1\"E!x!|!x!'2!x!J")) ≡ Some (jump done))
+    × (after_tag (codes "x") (nodes Named (keys "!X!!xx!!!2")) ≡ None)
+    × (after_tag [] (nodes Named (keys "!X!!!2")) ≡ Some (number "2" done))
+    × (after_tag (codes "x") (nodes Named (keys "?!x!")) ≡ None)
+    × (after_tag (codes "x") (nodes Named (keys "<!x!")) ≡ None)
+    × (tag_at Named (codes "x") 1 (keys "1!x!2>3") ≡ Some (codes "2>3"))
+    × (tag_at Named (codes "x") 1 (keys "1>!x!3") ≡ None)
+    × (tag_at Named (codes "x") 1 (keys "1|!x!'3") ≡ None)
+    × (tag_at Named (codes "x") 1 (keys "!x!'3") ≡ Some (codes "'3"))
 unfolding computing_trees
 tags = (refl, refl, refl, refl, refl, refl, refl, refl, refl, refl, refl)

@@ -128,4 +128,4 @@ past_fillers (f ∷ fillers) bs all none = ap (λ v. cond v (after_fillers (fill
 
 pub passes_fillers : PassesFillers
 unfolding scan
-passes_fillers fillers bs all none = ap scan_here (past_fillers fillers bs all none)
+passes_fillers p fillers bs all none = ap (scan_here p) (past_fillers fillers bs all none)

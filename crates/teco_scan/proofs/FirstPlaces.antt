@@ -3,6 +3,7 @@ use Rattle.std.proofs.Common.{◌≡◌, ◌≤◌, ℕ, Bool, true, false, List
 use Rattle.teco_scan.specs.Closes.{tag_of}
 use Rattle.teco_scan.specs.Gathered.{AreTags, Places, place_of, with_tag}
 use Rattle.teco_scan.specs.Lists.{tag_at}
+use Rattle.teco_core.specs.declared.profile.Profile.{Profile}
 
 -- a name that has a place keeps it
 pub kept : (o : Option ℕ) (named : Bool) (to : ℕ) → (named ≡ true → is_some o ≡ true) → o ≡ with_tag named to o
@@ -38,12 +39,12 @@ one_more_within n (Some place) named to le within = within
 one_more_within n None true to le within = le
 one_more_within n None false to le within = tt
 
-module _ (text : List ℕ) (start depth next : ℕ) (places : Places)
-    (finds : (name : List ℕ) → first_of (tag_of text (place_of places name)) (tag_at name depth (drop next text)) ≡ tag_at name depth (drop start text))
+module _ (profile : Profile) (text : List ℕ) (start depth next : ℕ) (places : Places)
+    (finds : (name : List ℕ) → first_of (tag_of text (place_of places name)) (tag_at profile name depth (drop next text)) ≡ tag_at profile name depth (drop start text))
   where
     -- no more tags come
-    pub all_gathered : ((name : List ℕ) → IfSome (place_of places name) (λ to. to ≤ length text)) → ((name : List ℕ) → tag_at name depth (drop next text) ≡ None)
-        → AreTags text start depth places
+    pub all_gathered : ((name : List ℕ) → IfSome (place_of places name) (λ to. to ≤ length text)) → ((name : List ℕ) → tag_at profile name depth (drop next text) ≡ None)
+        → AreTags profile text start depth places
     all_gathered within none = record {
       finds = λ name.
           let found : Option (List ℕ) = tag_of text (place_of places name) in

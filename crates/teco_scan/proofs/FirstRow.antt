@@ -17,12 +17,12 @@ use Rattle.teco_scan.specs.declared.command.Form.TheVariants.{Register, Replace,
 use Rattle.teco_scan.specs.declared.command.RegisterCommand.{RegisterCommand}
 use Rattle.teco_scan.specs.declared.command.TextCommand.{TextCommand}
 use Rattle.teco_scan.specs.declared.command.Test as tests
-use Rattle.teco_scan.specs.declared.profile.Profile.{Profile}
-use Rattle.teco_scan.specs.declared.profile.Profile.TheVariants.{Named, Wide}
+use Rattle.teco_core.specs.declared.profile.Profile.{Profile}
+use Rattle.teco_core.specs.declared.profile.Profile.TheVariants.{Named, Wide}
 use Rattle.teco_scan.specs.declared.table.TheConstants.{ROWS, FIRST}
 use Rattle.teco_scan.specs.Led.{IsLed, form_in}
 use Rattle.teco_scan.specs.Spelling.{test_form}
-use Rattle.teco_scan.specs.Scan.{rows_of, scan_by, Reading, Instruction, TokenMeaning, no_modifiers, admits, after_letter, after_name, at_row, row_at, is_cut, of_row, command_at, modifiers_at, operand_at, begins_run, token_from, scanned, after_fillers, run_of, after_run, register_at, text_at, delimiter_at, test_at, step, digits, register, text, decide, tag}
+use Rattle.teco_scan.specs.Scan.{rows_of, scan, Reading, Instruction, TokenMeaning, no_modifiers, admits, after_letter, after_name, at_row, row_at, is_cut, of_row, command_at, modifiers_at, operand_at, begins_run, token_from, scanned, after_fillers, run_of, after_run, register_at, text_at, delimiter_at, test_at, step, digits, register, text, decide, tag}
 use Rattle.teco_scan.specs.Table.{begins_with}
 use Rattle.teco_scan.specs.FirstRow.{none_begins, is_whole, is_whole_first, picks, form_of, form_at, named_at, with_operand}
 use Rattle.teco_scan.proofs.SpelledReads.{both}
@@ -218,11 +218,11 @@ test_read Named bs r read = ap (λ (x : Reading tests.Test). x >>= (λ t. Ok (de
 test_read Wide bs r read = ap (λ (x : Reading tests.Test). x >>= (λ t. Ok (decide t.0, t.1))) read
 
 -- what is scanned from a place on where a byte alone names a command of this form, and this follows it
-pub led_read : (p : Profile) (xs : List ℕ) (at from : ℕ) (f : Form) (r : Reading Instruction) → IsLed xs at from f → operand_at (form_in p f) no_modifiers (drop (from + 1) xs) ≡ r → scanned (ordered no_modifiers r) ≡ scan_by p (drop at xs)
+pub led_read : (p : Profile) (xs : List ℕ) (at from : ℕ) (f : Form) (r : Reading Instruction) → IsLed xs at from f → operand_at (form_in p f) no_modifiers (drop (from + 1) xs) ≡ r → scanned (ordered no_modifiers r) ≡ scan p (drop at xs)
 led_read p xs at from f r led operand =
     lone_read (rows_of p) xs from (form_in p f) r led.begins.inside led.no_digit (led.named p) operand ∙ sym (scan_found p xs at from led.begins.inside led.begins.rest)
 
 -- what is scanned where no digit is, by the command that is read there
 pub command_read : (p : Profile) (xs : List ℕ) (at from : ℕ) (r : Reading TokenMeaning) → from < length xs → drop from xs ≡ after_fillers (drop at xs) → is_digit (get_or xs from 0) ≡ false
-    → with_operand (named_at (rows_of p) (drop from xs)) ≡ r → scanned r ≡ scan_by p (drop at xs)
+    → with_operand (named_at (rows_of p) (drop from xs)) ≡ r → scanned r ≡ scan p (drop at xs)
 command_read p xs at from r lt rest e read = sym (scan_found p xs at from lt rest ∙ ap scanned (token_named (rows_of p) (drop from xs) (no_run xs from lt e) ∙ read))

@@ -9,8 +9,8 @@ use Rattle.teco_core.specs.Ascii.{is_digit, upper}
 use Rattle.teco_core.specs.Register.{register_of}
 use Rattle.teco_scan.specs.declared.command.Modifiers.{Modifiers}
 use Rattle.teco_scan.specs.declared.command.Row.{Row}
-use Rattle.teco_scan.specs.declared.profile.Profile.{Profile}
-use Rattle.teco_scan.specs.declared.profile.Profile.TheVariants.{Named, Wide}
+use Rattle.teco_core.specs.declared.profile.Profile.{Profile}
+use Rattle.teco_core.specs.declared.profile.Profile.TheVariants.{Named, Wide}
 use Rattle.teco_scan.specs.declared.command.Name.{Name}
 use Rattle.teco_scan.specs.declared.command.Name.TheVariants.{One, Two, Three, Control}
 use Rattle.teco_scan.specs.declared.command.Form.{Form}

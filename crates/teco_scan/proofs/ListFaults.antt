@@ -8,6 +8,7 @@ use Rattle.teco_scan.specs.declared.command.Modifiers.{Modifiers}
 use Rattle.teco_scan.specs.declared.blocks.Kind.{Kind}
 use Rattle.teco_scan.specs.declared.blocks.Kind.TheVariants.{Iter, Then, Else}
 use Rattle.teco_core.specs.declared.code.Code.TheVariants.{Pdo}
+use Rattle.teco_core.specs.declared.profile.Profile.{Profile}
 use Rattle.teco_scan.specs.Scan.{Instruction, TokenMeaning, Scanned, found, ended, fault, scan}
 use Rattle.teco_scan.specs.Scan as token
 use Rattle.teco_scan.specs.Tree.{is_fault}
@@ -71,14 +72,15 @@ module _ (go : Lister) (h : (k : Option Kind) (d : ℕ) (bs : List ℕ) → Text
   scanned_textual (fault c) k d e = e c refl
   scanned_textual (found t bs) k d e = instruction_textual t.instruction t.modifiers bs k d
 
-textual_within : (n : ℕ) (k : Option Kind) (d : ℕ) (bs : List ℕ) → Textual (list_within n k d bs).1
-unfolding list_within
-textual_within zero k d bs = refl
-textual_within (suc n) k d bs = scanned_textual (list_within n) (textual_within n) (scan bs) k d (scan_fault bs)
+module _ (profile : Profile) where
+  textual_within : (n : ℕ) (k : Option Kind) (d : ℕ) (bs : List ℕ) → Textual (list_within profile n k d bs).1
+  unfolding list_within
+  textual_within zero k d bs = refl
+  textual_within (suc n) k d bs = scanned_textual (list_within profile n) (textual_within n) (scan profile bs) k d (scan_fault profile bs)
 
-list_textual : (k : Option Kind) (d : ℕ) (bs : List ℕ) → Textual (list_at k d bs).1
-unfolding list_at
-list_textual k d bs = textual_within (suc (length bs)) k d bs
+  list_textual : (k : Option Kind) (d : ℕ) (bs : List ℕ) → Textual (list_at profile k d bs).1
+  unfolding list_at
+  list_textual k d bs = textual_within (suc (length bs)) k d bs
 
-pub list_fault : (k : Option Kind) (d : ℕ) (bs : List ℕ) (c : Code) → (list_at k d bs).1 ≡ broken c → is_fault c ≡ true
-list_fault k d bs c e = subst Textual e (list_textual k d bs)
+  pub list_fault : (k : Option Kind) (d : ℕ) (bs : List ℕ) (c : Code) → (list_at profile k d bs).1 ≡ broken c → is_fault c ≡ true
+  list_fault k d bs c e = subst Textual e (list_textual k d bs)

@@ -8,6 +8,7 @@ use Rattle.teco_scan.specs.declared.command.BlockMark.{BlockMark}
 use Rattle.teco_scan.specs.declared.command.BlockMark.TheVariants.{Iterate, EndIteration, Otherwise, EndTest}
 use Rattle.teco_scan.specs.declared.blocks.Kind.{Kind}
 use Rattle.teco_scan.specs.declared.blocks.Kind.TheVariants.{Iter, Then, Else}
+use Rattle.teco_core.specs.declared.profile.Profile.{Profile}
 use Rattle.teco_scan.specs.Scan.{Instruction, TokenMeaning, Scanned, found, ended, fault, scan}
 use Rattle.teco_scan.specs.Scan as token
 use Rattle.teco_scan.specs.Tree.{item, iter, cond, tag, escape}
@@ -77,14 +78,15 @@ module _ (go : Lister) (h : Shrinks go) where
   scan_within (fault c) k d n lt = tt
   scan_within (found t bs) k d n lt = instruction_short t.instruction t.modifiers bs k d n (lt t bs refl)
 
-lists_shrink : (n : ℕ) → Shrinks (list_within n)
-unfolding list_within
-lists_shrink zero k d bs = tt
-lists_shrink (suc n) k d bs = scan_within (list_within n) (lists_shrink n) (scan bs) k d (length bs) (scan_short bs)
+module _ (profile : Profile) where
+  lists_shrink : (n : ℕ) → Shrinks (list_within profile n)
+  unfolding list_within
+  lists_shrink zero k d bs = tt
+  lists_shrink (suc n) k d bs = scan_within (list_within profile n) (lists_shrink n) (scan profile bs) k d (length bs) (scan_short profile bs)
 
-pub list_short : Shrinks list_at
-unfolding list_at
-list_short k d bs = lists_shrink (suc (length bs)) k d bs
+  pub list_short : Shrinks (list_at profile)
+  unfolding list_at
+  list_short k d bs = lists_shrink (suc (length bs)) k d bs
 
 module _ (n : ℕ) (go went : Lister) (h : Shrinks go) (same : Agree n go went) where
   behind_same : (k : Option Kind) (d : ℕ) (c : Past) → PastWithin n c → behind go k d c ≡ behind went k d c
@@ -132,15 +134,16 @@ module _ (n : ℕ) (go went : Lister) (h : Shrinks go) (same : Agree n go went) 
   scanned_same (fault c) k d lt = refl
   scanned_same (found t bs) k d lt = instruction_same t.instruction t.modifiers bs k d (lt t bs refl)
 
-lists_agree : (n m : ℕ) (k : Option Kind) (d : ℕ) (bs : List ℕ) → length bs < n → length bs < m → list_within n k d bs ≡ list_within m k d bs
-unfolding list_within
-lists_agree zero m k d bs p q = absurd (omega arith)
-lists_agree (suc n) zero k d bs p q = absurd (omega arith)
-lists_agree (suc n) (suc m) k d bs p q =
-    scanned_same (length bs) (list_within n) (list_within m) (lists_shrink n) (λ k d more lt. lists_agree n m k d more (omega arith) (omega arith)) (scan bs) k d (scan_short bs)
+module _ (profile : Profile) where
+  lists_agree : (n m : ℕ) (k : Option Kind) (d : ℕ) (bs : List ℕ) → length bs < n → length bs < m → list_within profile n k d bs ≡ list_within profile m k d bs
+  unfolding list_within
+  lists_agree zero m k d bs p q = absurd (omega arith)
+  lists_agree (suc n) zero k d bs p q = absurd (omega arith)
+  lists_agree (suc n) (suc m) k d bs p q =
+      scanned_same (length bs) (list_within profile n) (list_within profile m) (lists_shrink profile n) (λ k d more lt. lists_agree n m k d more (omega arith) (omega arith)) (scan profile bs) k d (scan_short profile bs)
 
--- the equation that the definition is meant by
-pub list_step : (k : Option Kind) (d : ℕ) (bs : List ℕ) → list_at k d bs ≡ at_scan list_at (scan bs) k d
-unfolding list_at list_within
-list_step k d bs =
-    scanned_same (length bs) (list_within (length bs)) list_at (lists_shrink (length bs)) (λ k d more lt. lists_agree (length bs) (suc (length more)) k d more lt (omega arith)) (scan bs) k d (scan_short bs)
+  -- the equation that the definition is meant by
+  pub list_step : (k : Option Kind) (d : ℕ) (bs : List ℕ) → list_at profile k d bs ≡ at_scan (list_at profile) (scan profile bs) k d
+  unfolding list_at list_within
+  list_step k d bs =
+      scanned_same (length bs) (list_within profile (length bs)) (list_at profile) (lists_shrink profile (length bs)) (λ k d more lt. lists_agree (length bs) (suc (length more)) k d more lt (omega arith)) (scan profile bs) k d (scan_short profile bs)

@@ -4,10 +4,10 @@ use Rattle.memchr.specs.Find.{IsFirstByte, is_byte}
 use Rattle.teco_core.specs.declared.code.Code.TheVariants.{Utc}
 use Rattle.std.proofs.Math.Seq.{take-append_seam}
 use Rattle.std.proofs.lemmas.List.{take_rest, drop-drop}
-use Rattle.teco_scan.specs.declared.profile.Profile.{Profile}
-use Rattle.teco_scan.specs.declared.profile.Profile.TheVariants.{Named}
+use Rattle.teco_core.specs.declared.profile.Profile.{Profile}
+use Rattle.teco_core.specs.declared.profile.Profile.TheVariants.{Named}
 use Rattle.teco_core.specs.Ascii.{is_digit}
-use Rattle.teco_scan.specs.Scan.{text_at, run_of, after_run, after_fillers, token_from, rows_of, scan, scan_by, scan_here_by, scanned}
+use Rattle.teco_scan.specs.Scan.{text_at, run_of, after_run, after_fillers, token_from, rows_of, scan, scan_here, scanned}
 
 pub front : (xs : List ℕ) (at : ℕ) → at < length xs → drop at xs ≡ get_or xs at 0 ∷ drop (at + 1) xs
 front xs at h = rw (add-one, drop-cons xs at 0)
@@ -69,14 +69,10 @@ text_at_some_here d xs at n h =
     let regrouped : at + n + 1 ≡ at + (n + 1) = omega arith in
     rw (long, regrouped, ← drop-drop (n + 1) at xs) here
 
-scan_here_is : (p : Profile) (bs : List ℕ) → 0 < length bs → scan_here_by p bs ≡ scanned (token_from (rows_of p) bs)
+scan_here_is : (p : Profile) (bs : List ℕ) → 0 < length bs → scan_here p bs ≡ scanned (token_from (rows_of p) bs)
 scan_here_is p [] h = absurd (omega arith)
 scan_here_is p (b ∷ bs) h = refl
 
-pub scan_found : (p : Profile) (xs : List ℕ) (at from : ℕ) → from < length xs → drop from xs ≡ after_fillers (drop at xs) → scan_by p (drop at xs) ≡ scanned (token_from (rows_of p) (drop from xs))
-scan_found p xs at from inside rest = ap (scan_here_by p) (sym rest) ∙ scan_here_is p (drop from xs) (omega (arith, length-drop from xs))
-
--- What is read in Named is what is read where no profile is said.
-pub scan_named : (bs : List ℕ) → scan_by Named bs ≡ scan bs
+pub scan_found : (p : Profile) (xs : List ℕ) (at from : ℕ) → from < length xs → drop from xs ≡ after_fillers (drop at xs) → scan p (drop at xs) ≡ scanned (token_from (rows_of p) (drop from xs))
 unfolding scan
-scan_named bs = refl
+scan_found p xs at from inside rest = ap (scan_here p) (sym rest) ∙ scan_here_is p (drop from xs) (omega (arith, length-drop from xs))

@@ -5,6 +5,7 @@ use Rattle.std.proofs.Common.{refl}
 use Prim.Native.String.{String}
 use Rattle.teco_core.specs.declared.number.Op.TheVariants.{Plus, Over, And, Or}
 use Rattle.teco_core.specs.declared.code.Code.TheVariants.{Ill, Iqc, Iqn, Utc}
+use Rattle.teco_core.specs.declared.profile.Profile.TheVariants.{Named}
 use Rattle.teco_scan.specs.declared.command.Bare.TheVariants as group
 use Rattle.teco_scan.specs.declared.command.Quantity.TheVariants.{Pointer, End, FormFeed, InputEnd}
 use Rattle.teco_scan.specs.declared.command.Arithmetic.TheVariants.{Operator, Open, Close, Comma}
@@ -43,7 +44,7 @@ abbrev colon : Instruction → String → Scanned
 colon i rest = found (record { modifiers = record { at = false; colons = 1 }; instruction = i }) (keys rest)
 
 abbrev scans : String → Scanned → Type 0
-scans written s = scan (keys written) ≡ s
+scans written s = scan Named (keys written) ≡ s
 
 found_tokens : scans "20+3" (plain (step (digits (codes "20"))) "+3")
     × scans "+3" (plain (step (bare (group.Arithmetic (Operator Plus)))) "3")
@@ -67,14 +68,14 @@ found_arguments : scans "(3" (plain (step (bare (group.Arithmetic Open))) "3")
     × scans "#5" (plain (step (bare (group.Arithmetic (Operator Or)))) "5")
     × scans "^E=" (plain (step (bare (group.Quantity FormFeed))) "=")
     × scans "^e" (plain (step (bare (group.Quantity FormFeed))) "")
-    × (scan (5 ∷ codes "E") ≡ plain (step (bare (group.Quantity FormFeed))) "E")
+    × (scan Named (5 ∷ codes "E") ≡ plain (step (bare (group.Quantity FormFeed))) "E")
     × scans "^n=" (plain (step (bare (group.Quantity InputEnd))) "=")
-    × (scan (14 ∷ []) ≡ plain (step (bare (group.Quantity InputEnd))) "")
+    × (scan Named (14 ∷ []) ≡ plain (step (bare (group.Quantity InputEnd))) "")
     × scans "^^A=" (plain (step (token.byte 65)) "=")
     × scans "^^ 2" (plain (step (token.byte 32)) "2")
-    × (scan (30 ∷ codes "aa") ≡ plain (step (token.byte 97)) "a")
+    × (scan Named (30 ∷ codes "aa") ≡ plain (step (token.byte 97)) "a")
     × scans "^^" (fault Utc)
-    × (scan (30 ∷ []) ≡ fault Utc)
+    × (scan Named (30 ∷ []) ≡ fault Utc)
     × scans "a=" (plain (step (bare (group.Level Append))) "=")
     × scans ":(" (fault Ill)
     × scans "@," (fault Ill)
@@ -161,9 +162,9 @@ found_registers : scans "Qa3" (plain (step (register Number 0)) "3")
     × scans "uC=" (plain (step (register Set 2)) "=")
     × scans "^Uaa word$=" (plain (step (set_text 0 (codes "a word"))) "=")
     × scans "^ua$$" (plain (step (set_text 0 [])) "$")
-    × (scan (21 ∷ keys "a2$=") ≡ plain (step (set_text 0 (codes "2"))) "=")
+    × (scan Named (21 ∷ keys "a2$=") ≡ plain (step (set_text 0 (codes "2"))) "=")
     × scans "@^UA/x$$y/2" (at_sign (step (set_text 0 (keys "x$$y"))) "2")
-    × (scan (64 ∷ 21 ∷ keys "1|x|2") ≡ at_sign (step (set_text 27 (codes "x"))) "2")
+    × (scan Named (64 ∷ 21 ∷ keys "1|x|2") ≡ at_sign (step (set_text 27 (codes "x"))) "2")
 unfolding computing
 found_registers = (refl, refl, refl, refl, refl, refl, refl, refl, refl, refl, refl, refl)
 
@@ -186,7 +187,7 @@ found_no_registers : scans "Q" (fault Utc)
     × scans "@^Ua/x" (fault Utc)
     × scans "@^U?" (fault Iqn)
     × scans ":^Uax$" (fault Ill)
-    × (scan (21 ∷ []) ≡ fault Utc)
+    × (scan Named (21 ∷ []) ≡ fault Utc)
     × scans "^" (fault Utc)
     × scans "@^" (fault Utc)
     × scans ":^" (fault Ill)
@@ -223,9 +224,9 @@ found_edits : scans "K2" (plain (step (bare (group.Command Kill))) "2")
     × scans "xZ" (plain (step (register Extract 25)) "")
     × scans "[9" (plain (step (register Push 35)) "")
     × scans "]bT" (plain (step (register Pop 1)) "T")
-    × (scan (20 ∷ keys "=") ≡ plain (step (bare (group.Command TypeByte))) "=")
+    × (scan Named (20 ∷ keys "=") ≡ plain (step (bare (group.Command TypeByte))) "=")
     × scans "^tT" (plain (step (bare (group.Command TypeByte))) "T")
-    × (scan (9 ∷ keys " a$2") ≡ plain (step (text InsertTab (codes " a"))) "2")
+    × (scan Named (9 ∷ keys " a$2") ≡ plain (step (text InsertTab (codes " a"))) "2")
     × scans "==" (plain (step (bare (group.Command PrintOctal))) "")
     × scans "== =" (plain (step (bare (group.Command PrintOctal))) " =")
     × scans ":=" (colon (step (bare (group.Command Print))) "")
@@ -243,9 +244,9 @@ found_no_edits : scans ":K" (fault Ill)
     × scans "[" (fault Utc)
     × scans "]?" (fault Iqn)
     × scans ":]a" (fault Ill)
-    × (scan (9 ∷ []) ≡ fault Utc)
-    × (scan (9 ∷ codes "ab") ≡ fault Utc)
-    × (scan (64 ∷ 9 ∷ codes "/a/") ≡ fault Ill)
+    × (scan Named (9 ∷ []) ≡ fault Utc)
+    × (scan Named (9 ∷ codes "ab") ≡ fault Utc)
+    × (scan Named (64 ∷ 9 ∷ codes "/a/") ≡ fault Ill)
     × scans "^Ia$" (fault Ill)
 unfolding computing
 found_no_edits = (refl, refl, refl, refl, refl, refl, refl, refl, refl, refl, refl, refl, refl, refl)
@@ -255,8 +256,8 @@ found_searches : scans "Sab$=" (plain (step (text Search (codes "ab"))) "=")
     × scans "s$T" (plain (step (text Search [])) "T")
     × scans ":Sa$" (colon (step (text Search (codes "a"))) "")
     × scans "@S/a$/2" (at_sign (step (text Search (keys "a$"))) "2")
-    × (scan (keys "::Sa$=") ≡ found (record { modifiers = record { at = false; colons = 2 }; instruction = step (text Search (codes "a")) }) (codes "="))
-    × (scan (keys ":@:S//") ≡ found (record { modifiers = record { at = true; colons = 2 }; instruction = step (text Search []) }) [])
+    × (scan Named (keys "::Sa$=") ≡ found (record { modifiers = record { at = false; colons = 2 }; instruction = step (text Search (codes "a")) }) (codes "="))
+    × (scan Named (keys ":@:S//") ≡ found (record { modifiers = record { at = true; colons = 2 }; instruction = step (text Search []) }) [])
     × scans "FSa$b$2" (plain (step (token.replace (codes "a") (codes "b"))) "2")
     × scans "fs$$=" (plain (step (token.replace [] [])) "=")
     × scans ":FSa$$" (colon (step (token.replace (codes "a") [])) "")
@@ -302,7 +303,7 @@ found_pages : scans "Y2" (plain (step (bare (group.Command NextPage))) "2")
     × scans "P W" (plain (step (bare (group.Command TurnPages))) " W")
     × scans "eX=" (plain (step (bare (group.Command Exit))) "=")
     × scans "\\=" (plain (step (bare (group.Level Decimal))) "=")
-    × (scan (24 ∷ keys "=") ≡ plain (step (bare (group.Command CaseMode))) "=")
+    × (scan Named (24 ∷ keys "=") ≡ plain (step (bare (group.Command CaseMode))) "=")
     × scans "^x=" (plain (step (bare (group.Command CaseMode))) "=")
     × scans "E" (fault Utc)
     × scans "E=" (fault Ill)
@@ -329,6 +330,6 @@ is_lone_name b (Control l) = b + 64 == l
 is_lone_name b _ = false
 
 -- The bytes that are a token alone are the digits, and those names after which nothing follows.
-single_bytes : filter (λ b. is_token (scan (b ∷ []))) (up_to 256) ≡ filter (λ b. is_digit b || list_any (λ r. is_lone_name b r.name && is_alone r.form) ROWS) (up_to 256)
+single_bytes : filter (λ b. is_token (scan Named (b ∷ []))) (up_to 256) ≡ filter (λ b. is_digit b || list_any (λ r. is_lone_name b r.name && is_alone r.form) ROWS) (up_to 256)
 unfolding computing up_to is_token is_lone_name
 single_bytes = refl

@@ -12,6 +12,7 @@ use Rattle.teco_scan.specs.Breaks.{by_spelling}
 use Rattle.teco_scan.specs.Lists.{Close, closed, broken, Past, past, Listed, wrong, behind, behind_block, second, list_at}
 use Rattle.teco_scan.specs.Lists as lists
 use Rattle.teco_scan.specs.ListLaws.{Within}
+use Rattle.teco_core.specs.declared.profile.Profile.{Profile}
 use Rattle.teco_scan.specs.Scan.{Instruction, Scanned, TokenMeaning, found, ended, fault, scan, after_fillers}
 use Rattle.teco_scan.specs.Scan as token
 use Rattle.teco_scan.specs.Walk.{OpenList, Walker, too_deep, place, in_block, out_of, at_mark, at_instruction, at_scan, walk}
@@ -23,9 +24,9 @@ use Rattle.teco_scan.proofs.WalkUnrolls.{unrolls}
 abbrev pub block_list : Kind → ℕ → ℕ → OpenList
 block_list kind opening start = record { kind = Some kind; opening = opening; start = start }
 
-module _ (text : List ℕ) where
+module _ (profile : Profile) (text : List ℕ) where
   abbrev pub go : Walker ListFault
-  go o os bs = walk by_spelling text o os bs
+  go o os bs = walk profile by_spelling text o os bs
 
   -- where the walk goes on after a list of a block that closes so
   abbrev pub after_close : Kind → Bool → ℕ → List OpenList → List ℕ → Option ListFault
@@ -50,21 +51,21 @@ module _ (text : List ℕ) where
 
   -- of shorter bytes
   record Below (n : ℕ) : Type 0 where
-    meets : (k : Kind) (opening start : ℕ) (os : List OpenList) (bs : List ℕ) → length bs < n → Meets k opening os (go (block_list k opening start) os bs) (list_at (Some k) (length os) bs).1
+    meets : (k : Kind) (opening start : ℕ) (os : List OpenList) (bs : List ℕ) → length bs < n → Meets k opening os (go (block_list k opening start) os bs) (list_at profile (Some k) (length os) bs).1
 
   module _ (n : ℕ) (ih : Below n) (k : Kind) (opening start : ℕ) (os : List OpenList) where
     abbrev me : OpenList
     me = block_list k opening start
 
     -- on in the list after a list that a block in it ends with
-    on : (r : Option ListFault) (rest : List ℕ) → length rest < n → r ≡ go me os rest → Meets k opening os r (list_at (Some k) (length os) rest).1
-    on r rest lt e = subst (λ x. Meets k opening os x (list_at (Some k) (length os) rest).1) (sym e) (ih.meets k opening start os rest lt)
+    on : (r : Option ListFault) (rest : List ℕ) → length rest < n → r ≡ go me os rest → Meets k opening os r (list_at profile (Some k) (length os) rest).1
+    on r rest lt e = subst (λ x. Meets k opening os x (list_at profile (Some k) (length os) rest).1) (sym e) (ih.meets k opening start os rest lt)
 
-    after_iteration : (at : ℕ) (r : Option ListFault) (c : Close) → Within n c → Meets Iter at (me ∷ os) r c → Meets k opening os r (behind list_at (Some k) (length os) (past c)).1
+    after_iteration : (at : ℕ) (r : Option ListFault) (c : Close) → Within n c → Meets Iter at (me ∷ os) r c → Meets k opening os r (behind (list_at profile) (Some k) (length os) (past c)).1
     after_iteration at r (closed divided rest) lt e = on r rest lt e
     after_iteration at r (broken code) lt h = h
 
-    after_second : (at : ℕ) (r : Option ListFault) (c : Close) → Within n c → Meets Else at (me ∷ os) r c → Meets k opening os r (behind list_at (Some k) (length os) (past c)).1
+    after_second : (at : ℕ) (r : Option ListFault) (c : Close) → Within n c → Meets Else at (me ∷ os) r c → Meets k opening os r (behind (list_at profile) (Some k) (length os) (past c)).1
     after_second at r (closed divided rest) lt e = on r rest lt e
     after_second at r (broken code) lt h = h
 
@@ -72,11 +73,11 @@ module _ (text : List ℕ) where
     within_less m (closed divided rest) lt h = omega (arith, lt, h)
     within_less m (broken code) lt h = tt
 
-    after_first : (at : ℕ) (r : Option ListFault) (c : Close) → Within n c → Meets Then at (me ∷ os) r c → Meets k opening os r (behind list_at (Some k) (length os) (past (second list_at (length (me ∷ os)) c).1)).1
+    after_first : (at : ℕ) (r : Option ListFault) (c : Close) → Within n c → Meets Then at (me ∷ os) r c → Meets k opening os r (behind (list_at profile) (Some k) (length os) (past (second (list_at profile) (length (me ∷ os)) c).1)).1
     after_first at r (closed true rest) lt e =
-        after_second at r (list_at (Some Else) (length (me ∷ os)) rest).1
-        (within_less (length rest) (list_at (Some Else) (length (me ∷ os)) rest).1 lt (list_short (Some Else) (length (me ∷ os)) rest))
-        (subst (λ x. Meets Else at (me ∷ os) x (list_at (Some Else) (length (me ∷ os)) rest).1) (sym e) (ih.meets Else at (place text rest) (me ∷ os) rest lt))
+        after_second at r (list_at profile (Some Else) (length (me ∷ os)) rest).1
+        (within_less (length rest) (list_at profile (Some Else) (length (me ∷ os)) rest).1 lt (list_short profile (Some Else) (length (me ∷ os)) rest))
+        (subst (λ x. Meets Else at (me ∷ os) x (list_at profile (Some Else) (length (me ∷ os)) rest).1) (sym e) (ih.meets Else at (place text rest) (me ∷ os) rest lt))
     after_first at r (closed false rest) lt e = on r rest lt e
     after_first at r (broken code) lt h = h
 
@@ -86,41 +87,41 @@ module _ (text : List ℕ) where
     at_block false at r l h meets = meets
 
     instruction_meets : (i : Instruction) (m : Modifiers) (at : ℕ) (more : List ℕ) → at ≤ length text → length more < n
-        → Meets k opening os (at_instruction by_spelling go text i at me os more) (lists.at_instruction list_at i m more (Some k) (length os)).1
+        → Meets k opening os (at_instruction by_spelling go text i at me os more) (lists.at_instruction (list_at profile) i m more (Some k) (length os)).1
     instruction_meets (token.step i) m at more h lt = ih.meets k opening start os more lt
     instruction_meets (token.tag name) m at more h lt = ih.meets k opening start os more lt
     instruction_meets token.escape m at more h lt = ih.meets k opening start os more lt
     instruction_meets (token.decide t) m at more h lt =
-        at_block (length os == 64) at (go (block_list Then at (place text more)) (me ∷ os) more) (lists.cond_at list_at (Some k) (length os) t (list_at (Some Then) (suc (length os)) more)) h
-        (after_first at (go (block_list Then at (place text more)) (me ∷ os) more) (list_at (Some Then) (length (me ∷ os)) more).1
-        (within_less (length more) (list_at (Some Then) (length (me ∷ os)) more).1 lt (list_short (Some Then) (length (me ∷ os)) more))
+        at_block (length os == 64) at (go (block_list Then at (place text more)) (me ∷ os) more) (lists.cond_at (list_at profile) (Some k) (length os) t (list_at profile (Some Then) (suc (length os)) more)) h
+        (after_first at (go (block_list Then at (place text more)) (me ∷ os) more) (list_at profile (Some Then) (length (me ∷ os)) more).1
+        (within_less (length more) (list_at profile (Some Then) (length (me ∷ os)) more).1 lt (list_short profile (Some Then) (length (me ∷ os)) more))
         (ih.meets Then at (place text more) (me ∷ os) more lt))
     instruction_meets (token.mark Iterate) m at more h lt =
-        at_block (length os == 64) at (go (block_list Iter at (place text more)) (me ∷ os) more) (lists.iter_at list_at (Some k) (length os) (list_at (Some Iter) (suc (length os)) more)) h
-        (after_iteration at (go (block_list Iter at (place text more)) (me ∷ os) more) (list_at (Some Iter) (length (me ∷ os)) more).1
-        (within_less (length more) (list_at (Some Iter) (length (me ∷ os)) more).1 lt (list_short (Some Iter) (length (me ∷ os)) more))
+        at_block (length os == 64) at (go (block_list Iter at (place text more)) (me ∷ os) more) (lists.iter_at (list_at profile) (Some k) (length os) (list_at profile (Some Iter) (suc (length os)) more)) h
+        (after_iteration at (go (block_list Iter at (place text more)) (me ∷ os) more) (list_at profile (Some Iter) (length (me ∷ os)) more).1
+        (within_less (length more) (list_at profile (Some Iter) (length (me ∷ os)) more).1 lt (list_short profile (Some Iter) (length (me ∷ os)) more))
         (ih.meets Iter at (place text more) (me ∷ os) more lt))
     instruction_meets (token.mark EndIteration) m at more h lt = ends k
       where
-        ends : (x : Kind) → Meets x opening os (at_mark by_spelling go text EndIteration (Some x) at (block_list x opening start) os more) (lists.at_mark list_at EndIteration more (Some x) (length os)).1
+        ends : (x : Kind) → Meets x opening os (at_mark by_spelling go text EndIteration (Some x) at (block_list x opening start) os more) (lists.at_mark (list_at profile) EndIteration more (Some x) (length os)).1
         ends Iter = refl
         ends Then = here at _ h
         ends Else = here at _ h
     instruction_meets (token.mark Otherwise) m at more h lt = divides k
       where
-        divides : (x : Kind) → Meets x opening os (at_mark by_spelling go text Otherwise (Some x) at (block_list x opening start) os more) (lists.at_mark list_at Otherwise more (Some x) (length os)).1
+        divides : (x : Kind) → Meets x opening os (at_mark by_spelling go text Otherwise (Some x) at (block_list x opening start) os more) (lists.at_mark (list_at profile) Otherwise more (Some x) (length os)).1
         divides Iter = here at _ h
         divides Then = refl
         divides Else = here at _ h
     instruction_meets (token.mark EndTest) m at more h lt = ends k
       where
-        ends : (x : Kind) → Meets x opening os (at_mark by_spelling go text EndTest (Some x) at (block_list x opening start) os more) (lists.at_mark list_at EndTest more (Some x) (length os)).1
+        ends : (x : Kind) → Meets x opening os (at_mark by_spelling go text EndTest (Some x) at (block_list x opening start) os more) (lists.at_mark (list_at profile) EndTest more (Some x) (length os)).1
         ends Iter = here at _ h
         ends Then = refl
         ends Else = refl
 
     scan_meets : (s : Scanned) (at : ℕ) → at ≤ length text → ((t : TokenMeaning) (more : List ℕ) → s ≡ found t more → length more < n)
-        → Meets k opening os (at_scan by_spelling go text s at me os) (lists.at_scan list_at s (Some k) (length os)).1
+        → Meets k opening os (at_scan by_spelling go text s at me os) (lists.at_scan (list_at profile) s (Some k) (length os)).1
     scan_meets (found t more) at h lt = instruction_meets t.instruction t.modifiers at more h (lt t more refl)
     scan_meets ended at h lt = record { there = by_spelling.breaks at Rattle.teco_scan.specs.Walk.unended me; is = refl; by = refl; inside = h }
     scan_meets (fault code) at h lt = here at code h
@@ -132,10 +133,10 @@ module _ (text : List ℕ) where
   below zero = record { meets = λ k opening start os bs lt. absurd (omega (arith, lt)) }
   below (suc n) = record {
     meets = λ k opening start os bs lt.
-        subst (λ x. Meets k opening os x (list_at (Some k) (length os) bs).1) (sym (unrolls ListFault by_spelling text bs (block_list k opening start) os))
-        (subst (λ (l : Listed). Meets k opening os (at_scan by_spelling go text (scan bs) (place text (after_fillers bs)) (block_list k opening start) os) l.1) (sym (list_step (Some k) (length os) bs))
-        (scan_meets n (below n) k opening start os (scan bs) (place text (after_fillers bs)) (place_inside (after_fillers bs)) (λ t more e. omega (arith, lt, scan_short bs t more e))));
+        subst (λ x. Meets k opening os x (list_at profile (Some k) (length os) bs).1) (sym (unrolls profile ListFault by_spelling text bs (block_list k opening start) os))
+        (subst (λ (l : Listed). Meets k opening os (at_scan by_spelling go text (scan profile bs) (place text (after_fillers bs)) (block_list k opening start) os) l.1) (sym (list_step profile (Some k) (length os) bs))
+        (scan_meets n (below n) k opening start os (scan profile bs) (place text (after_fillers bs)) (place_inside (after_fillers bs)) (λ t more e. omega (arith, lt, scan_short profile bs t more e))));
   }
 
-  pub meets : (k : Kind) (opening start : ℕ) (os : List OpenList) (bs : List ℕ) → Meets k opening os (go (block_list k opening start) os bs) (list_at (Some k) (length os) bs).1
+  pub meets : (k : Kind) (opening start : ℕ) (os : List OpenList) (bs : List ℕ) → Meets k opening os (go (block_list k opening start) os bs) (list_at profile (Some k) (length os) bs).1
   meets k opening start os bs = (below (suc (length bs))).meets k opening start os bs (omega arith)

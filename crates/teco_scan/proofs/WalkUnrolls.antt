@@ -6,6 +6,7 @@ use Rattle.teco_scan.specs.declared.command.BlockMark.{BlockMark}
 use Rattle.teco_scan.specs.declared.command.BlockMark.TheVariants.{Iterate, EndIteration, Otherwise, EndTest}
 use Rattle.teco_scan.specs.declared.blocks.Kind.{Kind}
 use Rattle.teco_scan.specs.declared.blocks.Kind.TheVariants.{Iter, Then, Else}
+use Rattle.teco_core.specs.declared.profile.Profile.{Profile}
 use Rattle.teco_scan.specs.Scan.{Instruction, Scanned, TokenMeaning, found, ended, fault, scan, after_fillers}
 use Rattle.teco_scan.specs.Scan as token
 use Rattle.teco_scan.specs.Walk.{OpenList, Rule, Walker, too_deep, place, after_item, in_block, out_of, at_mark, at_instruction, at_scan, walk_within, walk}
@@ -59,31 +60,31 @@ module _ (F : Type 0) (rule : Rule F) (f g : Walker F) (bytes : List ℕ) where
   same_scan ended at o os h = refl
   same_scan (fault c) at o os h = refl
 
-module _ (F : Type 0) (rule : Rule F) (bytes : List ℕ) where
-  enough : (n m : ℕ) (bs : List ℕ) (o : OpenList) (os : List OpenList) → length bs < n → length bs < m → walk_within n rule bytes o os bs ≡ walk_within m rule bytes o os bs
+module _ (profile : Profile) (F : Type 0) (rule : Rule F) (bytes : List ℕ) where
+  enough : (n m : ℕ) (bs : List ℕ) (o : OpenList) (os : List OpenList) → length bs < n → length bs < m → walk_within profile n rule bytes o os bs ≡ walk_within profile m rule bytes o os bs
   unfolding walk_within
   enough zero m bs o os p q = absurd (omega (arith, p))
   enough (suc n) zero bs o os p q = absurd (omega (arith, q))
   enough (suc n) (suc m) bs o os p q =
-      same_scan F rule (walk_within n rule bytes) (walk_within m rule bytes) bytes (scan bs) (place bytes (after_fillers bs)) o os
-      (λ t rest e. let lt : length rest < length bs = scan_short bs t rest e in
+      same_scan F rule (walk_within profile n rule bytes) (walk_within profile m rule bytes) bytes (scan profile bs) (place bytes (after_fillers bs)) o os
+      (λ t rest e. let lt : length rest < length bs = scan_short profile bs t rest e in
       record { same = λ a around. enough n m rest a around (omega (arith, p, lt)) (omega (arith, q, lt)) })
 
   pub unrolls : (bs : List ℕ) (o : OpenList) (os : List OpenList)
-      → walk rule bytes o os bs ≡ at_scan rule (walk rule bytes) bytes (scan bs) (place bytes (after_fillers bs)) o os
+      → walk profile rule bytes o os bs ≡ at_scan rule (walk profile rule bytes) bytes (scan profile bs) (place bytes (after_fillers bs)) o os
   unfolding walk walk_within
   unrolls bs o os =
-      same_scan F rule (walk_within (length bs) rule bytes) (walk rule bytes) bytes (scan bs) (place bytes (after_fillers bs)) o os
-      (λ t rest e. let lt : length rest < length bs = scan_short bs t rest e in
+      same_scan F rule (walk_within profile (length bs) rule bytes) (walk profile rule bytes) bytes (scan profile bs) (place bytes (after_fillers bs)) o os
+      (λ t rest e. let lt : length rest < length bs = scan_short profile bs t rest e in
       record { same = λ a around. enough (length bs) (suc (length rest)) rest a around (omega (arith, lt)) (omega arith) })
 
   -- from what was scanned on
-  pub scanned_at : (bs : List ℕ) (o : OpenList) (os : List OpenList) (s : Scanned) (at : ℕ) → s ≡ scan bs → place bytes (after_fillers bs) ≡ at
-      → walk rule bytes o os bs ≡ at_scan rule (walk rule bytes) bytes s at o os
+  pub scanned_at : (bs : List ℕ) (o : OpenList) (os : List OpenList) (s : Scanned) (at : ℕ) → s ≡ scan profile bs → place bytes (after_fillers bs) ≡ at
+      → walk profile rule bytes o os bs ≡ at_scan rule (walk profile rule bytes) bytes s at o os
   scanned_at bs o os s at e p =
       unrolls bs o os
-      ∙ ap (λ (x : Scanned). at_scan rule (walk rule bytes) bytes x (place bytes (after_fillers bs)) o os) (sym e)
-      ∙ ap (λ (n : ℕ). at_scan rule (walk rule bytes) bytes s n o os) p
+      ∙ ap (λ (x : Scanned). at_scan rule (walk profile rule bytes) bytes x (place bytes (after_fillers bs)) o os) (sym e)
+      ∙ ap (λ (n : ℕ). at_scan rule (walk profile rule bytes) bytes s n o os) p
 
   -- a block that is opened, where fewer are open than may be
   pub block_opens : (go : Walker F) (kind : Kind) (at : ℕ) (o : OpenList) (os : List OpenList) (to : ℕ) → (length os ≡ 64 → ⊥) → to ≤ length bytes

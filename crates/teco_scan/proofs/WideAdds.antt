@@ -13,9 +13,9 @@ use Rattle.teco_scan.specs.declared.command.Name.TheVariants.{One, Two, Three, C
 use Rattle.teco_scan.specs.declared.command.Form.{Form}
 use Rattle.teco_scan.specs.declared.command.Form.TheVariants as form
 use Rattle.teco_scan.specs.declared.command.Test.{Test}
-use Rattle.teco_scan.specs.declared.profile.Profile.TheVariants.{Named, Wide}
+use Rattle.teco_core.specs.declared.profile.Profile.TheVariants.{Named, Wide}
 use Rattle.teco_scan.specs.declared.table.TheConstants.{ROWS, WIDE_ROWS}
-use Rattle.teco_scan.specs.Scan.{decide, Reading, Instruction, TokenMeaning, found, fault, scanned, no_modifiers, or_else, or_sign, letter_test, scan_here_by, test_of, test_at, byte_at, operand_at, admits, after_letter, after_name, ends_inside, is_refused, at_row, row_at, is_cut, modifiers_at, begins_run, token_from, after_fillers}
+use Rattle.teco_scan.specs.Scan.{decide, Reading, Instruction, TokenMeaning, found, fault, scanned, no_modifiers, or_else, or_sign, letter_test, scan_here, scan, test_of, test_at, byte_at, operand_at, admits, after_letter, after_name, ends_inside, is_refused, at_row, row_at, is_cut, modifiers_at, begins_run, token_from, after_fillers}
 use Rattle.teco_scan.specs.FirstRow.{form_of, form_at, named_at, with_operand}
 use Rattle.teco_scan.specs.Led.{form_in}
 use Rattle.teco_scan.specs.Spelling.{Among}
@@ -273,7 +273,7 @@ token_made bs t e = here (begins_run bs) refl
     here true run = inl (run_token ROWS bs run ∙ sym (run_token WIDE_ROWS bs run) ∙ e)
     here false none = command none (named_at WIDE_ROWS bs) refl (sym (token_named WIDE_ROWS bs none) ∙ e)
 
-here_made : (bs rest : List ℕ) (t : TokenMeaning) → scan_here_by Wide bs ≡ found t rest → (scan_here_by Named bs ≡ found t rest) ⊎ (scan_here_by Named bs ≡ fault Ill) ⊎ (scan_here_by Named bs ≡ fault Iqc)
+here_made : (bs rest : List ℕ) (t : TokenMeaning) → scan_here Wide bs ≡ found t rest → (scan_here Named bs ≡ found t rest) ⊎ (scan_here Named bs ≡ fault Ill) ⊎ (scan_here Named bs ≡ fault Iqc)
 here_made [] rest t e = absurd cc
 here_made (b ∷ bs) rest t e = of_reading (token_from WIDE_ROWS (b ∷ bs)) refl e
   where
@@ -290,4 +290,5 @@ here_made (b ∷ bs) rest t e = of_reading (token_from WIDE_ROWS (b ∷ bs)) ref
 
 -- What Wide finds, Named finds, or it is ILL or IQC.
 pub wide_adds : WideAdds
+unfolding scan
 wide_adds bs rest t e = here_made (after_fillers bs) rest t e

@@ -13,10 +13,10 @@ use Rattle.teco_scan.specs.declared.command.Name.TheVariants.{One, Control}
 use Rattle.teco_scan.specs.declared.command.Form.{Form}
 use Rattle.teco_scan.specs.declared.command.Form.TheVariants as form
 use Rattle.teco_scan.specs.declared.command.Test.{Test}
-use Rattle.teco_scan.specs.declared.profile.Profile.{Profile}
-use Rattle.teco_scan.specs.declared.profile.Profile.TheVariants.{Named, Wide}
+use Rattle.teco_core.specs.declared.profile.Profile.{Profile}
+use Rattle.teco_core.specs.declared.profile.Profile.TheVariants.{Named, Wide}
 use Rattle.teco_scan.specs.declared.table.TheConstants.{ROWS, WIDE_ROWS}
-use Rattle.teco_scan.specs.Scan.{decide, step, digits, run_of, after_run, Reading, Instruction, TokenMeaning, found, scanned, no_modifiers, or_else, or_sign, letter_test, rows_of, scan_here_by, test_of, test_at, byte_at, operand_at, admits, after_name, at_row, row_at, is_cut, modifiers_at, begins_run, token_from, after_fillers}
+use Rattle.teco_scan.specs.Scan.{decide, step, digits, run_of, after_run, Reading, Instruction, TokenMeaning, found, scanned, no_modifiers, or_else, or_sign, letter_test, rows_of, scan_here, scan, test_of, test_at, byte_at, operand_at, admits, after_name, at_row, row_at, is_cut, modifiers_at, begins_run, token_from, after_fillers}
 use Rattle.teco_scan.specs.FirstRow.{form_of, form_at, named_at, with_operand}
 use Rattle.teco_scan.specs.Led.{form_in}
 use Rattle.teco_scan.specs.Table.{is_name, meets}
@@ -149,9 +149,6 @@ pub lone_kept : (b : ℕ) (f : Form) → ((bs : List ℕ) → named_at ROWS (b �
 lone_kept b f named Named bs = named bs ∙ ap (λ (f : Form). Ok ((no_modifiers, f), bs)) (sym (named_form f))
 lone_kept b f named Wide bs = named_kept (b ∷ bs) ((no_modifiers, f), bs) (named bs)
 
-pub lone_of_named : (b : ℕ) (f : Form) (bs : List ℕ) → named_at ROWS (b ∷ bs) ≡ Ok ((no_modifiers, form_in Named f), bs) → named_at ROWS (b ∷ bs) ≡ Ok ((no_modifiers, f), bs)
-lone_of_named b f bs named = named ∙ ap (λ (f : Form). Ok ((no_modifiers, f), bs)) (named_form f)
-
 -- What is read after a name in Named is read in Wide.
 test_kept : (bs : List ℕ) (x : Test × List ℕ) → test_at Named bs ≡ Ok x → test_at Wide bs ≡ Ok x
 unfolding test_at byte_at test_of
@@ -203,7 +200,7 @@ token_kept bs t e = here (begins_run bs) refl
     here true run = run_token WIDE_ROWS bs run ∙ sym (run_token ROWS bs run) ∙ e
     here false none = token_named WIDE_ROWS bs none ∙ named (named_at ROWS bs) refl (sym (token_named ROWS bs none) ∙ e)
 
-here_kept : (bs rest : List ℕ) (t : TokenMeaning) → scan_here_by Named bs ≡ found t rest → scan_here_by Wide bs ≡ found t rest
+here_kept : (bs rest : List ℕ) (t : TokenMeaning) → scan_here Named bs ≡ found t rest → scan_here Wide bs ≡ found t rest
 here_kept [] rest t e = absurd cc
 here_kept (b ∷ bs) rest t e = of_reading (token_from ROWS (b ∷ bs)) refl e
   where
@@ -213,4 +210,5 @@ here_kept (b ∷ bs) rest t e = of_reading (token_from ROWS (b ∷ bs)) refl e
 
 -- What Named finds, Wide finds.
 pub wide_keeps : WideKeeps
+unfolding scan
 wide_keeps bs rest t e = here_kept (after_fillers bs) rest t e

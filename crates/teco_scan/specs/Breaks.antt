@@ -6,6 +6,7 @@ use Rattle.teco_scan.specs.declared.blocks.Kind.{Kind}
 use Rattle.teco_scan.specs.declared.blocks.Kind.TheVariants.{Iter, Then, Else}
 use Rattle.teco_scan.specs.declared.breaks.ListFault.{ListFault}
 use Rattle.teco_scan.specs.declared.breaks.ListAt.{ListAt}
+use Rattle.teco_core.specs.declared.profile.Profile.{Profile}
 use Rattle.teco_scan.specs.Scan.{after_fillers}
 use Rattle.teco_scan.specs.Walk.{Break, unreadable, stray, unended, too_deep, OpenList, Rule, walk, first_by}
 
@@ -39,15 +40,15 @@ abbrev pub by_spelling : Rule ListFault
 by_spelling = record { breaks = broken_so; item = λ at item lists. None }
 
 -- the first fault of a text, if it has one
-abbrev pub first_break : List ℕ → Option ListFault
-first_break text = first_by by_spelling text
+abbrev pub first_break : Profile → List ℕ → Option ListFault
+first_break p text = first_by p by_spelling text
 
 -- the list of a part of a block that opens in another list, and begins here
 abbrev pub inside_list : ListAt → Kind → ℕ → ListAt
 inside_list list kind start = record { kind = Some kind; start = start; depth = list.depth + 1 }
 
 -- A list of a text breaks so, from a place in it on: wherever its block opens, and whatever lists are around it.
-pub record Breaks (text : List ℕ) (list : ListAt) (at : ℕ) (there : ListFault) : Type 0 where
+pub record Breaks (p : Profile) (text : List ℕ) (list : ListAt) (at : ℕ) (there : ListFault) : Type 0 where
   pub walked : (opens : ℕ) (around : List OpenList) → length around ≡ list.depth
-      → walk by_spelling text (record { kind = list.kind; opening = opens; start = list.start }) around (drop at text)
+      → walk p by_spelling text (record { kind = list.kind; opening = opens; start = list.start }) around (drop at text)
       ≡ Some there

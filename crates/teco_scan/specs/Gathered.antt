@@ -4,6 +4,7 @@ use Rattle.std.specs.BTreeMap.{BTreeMap, get_by}
 use Rattle.std.specs.Cmp.Lexicographic.{slice_cmp}
 use Rattle.std.specs.Ordering.{nat_cmp}
 use denote.Ref.{Bor}
+use Rattle.teco_core.specs.declared.profile.Profile.{Profile}
 use Rattle.teco_scan.specs.Closes.{tag_of}
 use Rattle.teco_scan.specs.Lists.{tag_at}
 
@@ -22,6 +23,6 @@ with_tag named to None = if named then Some to else None
 
 -- For each name these are the places of the first tag that is directly in the list, which begins at a place where so many blocks
 -- are open.
-pub record AreTags (text : List ℕ) (start depth : ℕ) (places : Places) : Type 0 where
-  pub finds : (name : List ℕ) → tag_of text (place_of places name) ≡ tag_at name depth (drop start text)
+pub record AreTags (p : Profile) (text : List ℕ) (start depth : ℕ) (places : Places) : Type 0 where
+  pub finds : (name : List ℕ) → tag_of text (place_of places name) ≡ tag_at p name depth (drop start text)
   pub within : (name : List ℕ) → IfSome (place_of places name) (λ to. to ≤ length text)

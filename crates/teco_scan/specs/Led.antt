@@ -3,7 +3,7 @@ use Rattle.std.specs.Prelude.{◌≡◌, ◌≤◌, ◌<◌, ℕ, List, ◌∷�
 use Rattle.teco_core.specs.Ascii.{is_digit}
 use Rattle.teco_scan.specs.declared.command.Form.{Form}
 use Rattle.teco_scan.specs.declared.command.Form.TheVariants as form
-use Rattle.teco_scan.specs.declared.profile.Profile.{Profile}
+use Rattle.teco_core.specs.declared.profile.Profile.{Profile}
 use Rattle.teco_scan.specs.FirstRow.{named_at}
 use Rattle.teco_scan.specs.Scan.{rows_of, after_fillers, no_modifiers}
 use Rattle.teco_scan.specs.Spelling.{test_form}

@@ -9,6 +9,7 @@ use Rattle.teco_scan.specs.declared.command.Test.{Test}
 use Rattle.teco_scan.specs.declared.command.BlockMark.{BlockMark}
 use Rattle.teco_scan.specs.declared.command.BlockMark.TheVariants.{Iterate, EndIteration, Otherwise, EndTest}
 use Rattle.teco_scan.specs.declared.blocks.Kind.{Kind}
+use Rattle.teco_core.specs.declared.profile.Profile.{Profile}
 use Rattle.teco_scan.specs.declared.blocks.Kind.TheVariants.{Iter, Then, Else}
 use Rattle.teco_scan.specs.Scan.{Instruction, Scanned, found, ended, fault, scan}
 use Rattle.teco_scan.specs.Scan as token
@@ -98,17 +99,17 @@ at_scan lists (fault code) kind depth = wrong code
 at_scan lists (found next bytes) kind depth = at_instruction lists next.instruction next.modifiers bytes kind depth
 
 -- within so many tokens
-unfoldable pub list_within : ℕ → Lister
-list_within zero kind depth bytes = wrong Utc
-list_within (suc tokens) kind depth bytes = at_scan (list_within tokens) (scan bytes) kind depth
+unfoldable pub list_within : Profile → ℕ → Lister
+list_within p zero kind depth bytes = wrong Utc
+list_within p (suc tokens) kind depth bytes = at_scan (list_within p tokens) (scan p bytes) kind depth
 
 -- Each token has a byte, so this is every token: `block_laws` has the equation without the count.
-unfoldable pub list_at : Lister
-list_at kind depth bytes = list_within (suc (length bytes)) kind depth bytes
+unfoldable pub list_at : Profile → Lister
+list_at p kind depth bytes = list_within p (suc (length bytes)) kind depth bytes
 
--- the nodes of a text
-abbrev pub nodes : List ℕ → Nodes
-nodes bytes = (list_at None 0 bytes).0
+-- the nodes of a text, in a profile
+abbrev pub nodes : Profile → List ℕ → Nodes
+nodes p bytes = (list_at p None 0 bytes).0
 
 -- the bytes after the first tag of a name that is directly in the list of these bytes, where so many blocks are open
 abbrev pub Finder : Type 0
@@ -122,25 +123,25 @@ abbrev pub tag_opened : ℕ → Option (List ℕ) → Option (List ℕ)
 tag_opened depth found_tag = if depth == BLOCK_LIMIT then None else found_tag
 
 -- Blocks are passed whole; the mark that closes the list ends the search.
-abbrev pub tag_at_instruction : List ℕ → Finder → Instruction → List ℕ → ℕ → Option (List ℕ)
-tag_at_instruction name finds (token.step command) bytes depth = finds depth bytes
-tag_at_instruction name finds (token.mark Iterate) bytes depth = tag_opened depth
-    (tag_behind finds depth (behind_block list_at Iter (suc depth) (list_at (Some Iter) (suc depth) bytes).1))
-tag_at_instruction name finds (token.mark of_block) bytes depth = None
-tag_at_instruction name finds (token.decide test) bytes depth = tag_opened depth
-    (tag_behind finds depth (behind_block list_at Then (suc depth) (list_at (Some Then) (suc depth) bytes).1))
-tag_at_instruction name finds (token.tag other) bytes depth = if bytes_eq other name then Some bytes else finds depth bytes
-tag_at_instruction name finds token.escape bytes depth = finds depth bytes
+abbrev pub tag_at_instruction : Profile → List ℕ → Finder → Instruction → List ℕ → ℕ → Option (List ℕ)
+tag_at_instruction p name finds (token.step command) bytes depth = finds depth bytes
+tag_at_instruction p name finds (token.mark Iterate) bytes depth = tag_opened depth
+    (tag_behind finds depth (behind_block (list_at p) Iter (suc depth) (list_at p (Some Iter) (suc depth) bytes).1))
+tag_at_instruction p name finds (token.mark of_block) bytes depth = None
+tag_at_instruction p name finds (token.decide test) bytes depth = tag_opened depth
+    (tag_behind finds depth (behind_block (list_at p) Then (suc depth) (list_at p (Some Then) (suc depth) bytes).1))
+tag_at_instruction p name finds (token.tag other) bytes depth = if bytes_eq other name then Some bytes else finds depth bytes
+tag_at_instruction p name finds token.escape bytes depth = finds depth bytes
 
-abbrev pub tag_at_scan : List ℕ → Finder → Scanned → ℕ → Option (List ℕ)
-tag_at_scan name finds (found next bytes) depth = tag_at_instruction name finds next.instruction bytes depth
-tag_at_scan name finds ended depth = None
-tag_at_scan name finds (fault code) depth = None
+abbrev pub tag_at_scan : Profile → List ℕ → Finder → Scanned → ℕ → Option (List ℕ)
+tag_at_scan p name finds (found next bytes) depth = tag_at_instruction p name finds next.instruction bytes depth
+tag_at_scan p name finds ended depth = None
+tag_at_scan p name finds (fault code) depth = None
 
 -- within so many tokens
-unfoldable pub tag_within : ℕ → List ℕ → Finder
-tag_within zero name depth bytes = None
-tag_within (suc tokens) name depth bytes = tag_at_scan name (tag_within tokens name) (scan bytes) depth
+unfoldable pub tag_within : Profile → ℕ → List ℕ → Finder
+tag_within p zero name depth bytes = None
+tag_within p (suc tokens) name depth bytes = tag_at_scan p name (tag_within p tokens name) (scan p bytes) depth
 
-unfoldable pub tag_at : List ℕ → Finder
-tag_at name depth bytes = tag_within (suc (length bytes)) name depth bytes
+unfoldable pub tag_at : Profile → List ℕ → Finder
+tag_at p name depth bytes = tag_within p (suc (length bytes)) name depth bytes

@@ -5,16 +5,17 @@ use Rattle.teco_scan.specs.declared.command.Modifiers.{Modifiers}
 use Rattle.teco_scan.specs.declared.command.Test.{Test}
 use Rattle.teco_scan.specs.declared.command.BlockMark.{BlockMark}
 use Rattle.teco_scan.specs.declared.command.BlockMark.TheVariants.{Iterate, EndIteration, Otherwise, EndTest}
+use Rattle.teco_core.specs.declared.profile.Profile.{Profile}
 use Rattle.teco_scan.specs.Scan.{Item, Instruction, TokenMeaning, found, ended, scan}
 use Rattle.teco_scan.specs.Scan as token
 use Rattle.teco_scan.specs.Tree.{Nodes, done, item, escape, iter, cond, tag, faulty}
 use Rattle.teco_scan.specs.Lists.{nodes}
 
--- These tokens are read one after another, and the bytes after them are left.
-pub data TokensRead : List ℕ → List TokenMeaning → List ℕ → Type 0 where
-  none_read : {bs : List ℕ} → TokensRead bs [] bs
-  one_read : {bs rest left : List ℕ} {t : TokenMeaning} {ts : List TokenMeaning} → scan bs ≡ found t rest
-      → TokensRead rest ts left → TokensRead bs (t ∷ ts) left
+-- In a profile these tokens are read one after another, and the bytes after them are left.
+pub data TokensRead (p : Profile) : List ℕ → List TokenMeaning → List ℕ → Type 0 where
+  none_read : {bs : List ℕ} → TokensRead p bs [] bs
+  one_read : {bs rest left : List ℕ} {t : TokenMeaning} {ts : List TokenMeaning} → scan p bs ≡ found t rest
+      → TokensRead p rest ts left → TokensRead p bs (t ∷ ts) left
 
 abbrev pub order : Modifiers → Instruction → TokenMeaning
 order m i = record { modifiers = m; instruction = i }
@@ -60,9 +61,9 @@ pub data Nests : Nodes → List TokenMeaning → Type 0 where
       ∷ (inner ++ (order k (token.mark Otherwise) ∷ (second ++ closing))))
 
 -- The tokens of a text, up to its first fault, nest as its nodes say; where there is no fault they are all.
-pub record IsNested (bs : List ℕ) : Type 0 where
+pub record IsNested (p : Profile) (bs : List ℕ) : Type 0 where
   pub tokens : List TokenMeaning
   pub left : List ℕ
-  pub read : TokensRead bs tokens left
-  pub nests : Nests (nodes bs) tokens
-  pub whole : is_whole (nodes bs) ≡ true → scan left ≡ ended
+  pub read : TokensRead p bs tokens left
+  pub nests : Nests (nodes p bs) tokens
+  pub whole : is_whole (nodes p bs) ≡ true → scan p left ≡ ended

@@ -17,8 +17,8 @@ use Rattle.teco_scan.specs.declared.command.RegisterCommand.{RegisterCommand}
 use Rattle.teco_scan.specs.declared.command.TextCommand.{TextCommand}
 use Rattle.teco_scan.specs.declared.command.Test.{Test}
 use Rattle.teco_scan.specs.declared.command.Test.TheVariants as tests
-use Rattle.teco_scan.specs.declared.profile.Profile.{Profile}
-use Rattle.teco_scan.specs.declared.profile.Profile.TheVariants.{Named, Wide}
+use Rattle.teco_core.specs.declared.profile.Profile.{Profile}
+use Rattle.teco_core.specs.declared.profile.Profile.TheVariants.{Named, Wide}
 use Rattle.teco_scan.specs.declared.table.TheConstants.{ROWS, WIDE_ROWS}
 use Prim.Native.Char.{code}
 use Rattle.teco_core.specs.declared.ascii.TheConstants.{ESC}
@@ -269,17 +269,10 @@ rows_of Named = ROWS
 rows_of Wide = WIDE_ROWS
 
 -- what is found where no filler is
-abbrev pub scan_here_by : Profile → List ℕ → Scanned
-scan_here_by p [] = ended
-scan_here_by p (b ∷ bs) = scanned (token_from (rows_of p) (b ∷ bs))
+abbrev pub scan_here : Profile → List ℕ → Scanned
+scan_here p [] = ended
+scan_here p (b ∷ bs) = scanned (token_from (rows_of p) (b ∷ bs))
 
 -- the first token of the bytes, in a profile
-abbrev pub scan_by : Profile → List ℕ → Scanned
-scan_by p bs = scan_here_by p (after_fillers bs)
-
--- The same in Named, which is meant wherever no profile is said.
-abbrev pub scan_here : List ℕ → Scanned
-scan_here = scan_here_by Named
-
-unfoldable pub scan : List ℕ → Scanned
-scan bs = scan_by Named bs
+unfoldable pub scan : Profile → List ℕ → Scanned
+scan p bs = scan_here p (after_fillers bs)

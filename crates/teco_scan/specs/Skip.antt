@@ -6,6 +6,7 @@ use Rattle.teco_scan.specs.declared.command.BlockMark.TheVariants.{Iterate, EndI
 use Rattle.teco_scan.specs.declared.blocks.Kind.{Kind}
 use Rattle.teco_scan.specs.declared.blocks.Kind.TheVariants.{Iter, Then, Else}
 use Rattle.teco_scan.specs.declared.blocks.SkipEnd.{SkipEnd}
+use Rattle.teco_core.specs.declared.profile.Profile.{Profile}
 use Rattle.teco_scan.specs.Scan.{Instruction, mark, decide, tag}
 use Rattle.teco_scan.specs.Lists.{list_at, tag_at}
 use Prim.Native.Char.{code}
@@ -55,6 +56,6 @@ is_tag name (tag other) = bytes_eq other name
 is_tag name _ = false
 
 -- From these bytes and from those a list closes alike, and a search finds the same tag.
-pub record AreAlike (bs more : List ℕ) : Type 0 where
-  pub closes : (k : Option Kind) (d : ℕ) → (list_at k d bs).1 ≡ (list_at k d more).1
-  pub finds : (name : List ℕ) (d : ℕ) → tag_at name d bs ≡ tag_at name d more
+pub record AreAlike (p : Profile) (bs more : List ℕ) : Type 0 where
+  pub closes : (k : Option Kind) (d : ℕ) → (list_at p k d bs).1 ≡ (list_at p k d more).1
+  pub finds : (name : List ℕ) (d : ℕ) → tag_at p name d bs ≡ tag_at p name d more

@@ -16,8 +16,8 @@ use Rattle.teco_scan.specs.declared.command.BlockMark.{BlockMark}
 use Rattle.teco_scan.specs.declared.command.RegisterCommand.{RegisterCommand}
 use Rattle.teco_scan.specs.declared.command.TextCommand.{TextCommand}
 use Rattle.teco_scan.specs.declared.command.Test.{Test}
-use Rattle.teco_scan.specs.declared.profile.Profile.{Profile}
-use Rattle.teco_scan.specs.declared.profile.Profile.TheVariants.{Named, Wide}
+use Rattle.teco_core.specs.declared.profile.Profile.{Profile}
+use Rattle.teco_core.specs.declared.profile.Profile.TheVariants.{Named, Wide}
 use Rattle.teco_scan.specs.Scan.{digits, bare, register, byte, text, set_text, replace, Instruction, step, mark, decide, tag, escape, TokenMeaning, test_of, admits, no_modifiers, token_from, scan, scan_here}
 use Prim.Native.Char.{code}
 use Rattle.teco_core.specs.declared.ascii.TheConstants.{ESC}
@@ -178,5 +178,5 @@ BeginsNoFiller (b ∷ bs) = is_filler b ≡ false
 
 -- What is found is what is after the fillers.
 abbrev pub PassesFillers : Type 0
-PassesFillers = (fillers bs : List ℕ) → AllByRecursion (λ b. is_filler b ≡ true) fillers → BeginsNoFiller bs
-    → scan (fillers ++ bs) ≡ scan_here bs
+PassesFillers = (p : Profile) (fillers bs : List ℕ) → AllByRecursion (λ b. is_filler b ≡ true) fillers → BeginsNoFiller bs
+    → scan p (fillers ++ bs) ≡ scan_here p bs

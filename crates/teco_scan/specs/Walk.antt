@@ -6,6 +6,7 @@ use Rattle.teco_core.specs.declared.limits.TheConstants.{BLOCK_LIMIT}
 use Rattle.teco_scan.specs.declared.command.BlockMark.{BlockMark}
 use Rattle.teco_scan.specs.declared.command.BlockMark.TheVariants.{Iterate, EndIteration, Otherwise, EndTest}
 use Rattle.teco_scan.specs.declared.blocks.Kind.{Kind}
+use Rattle.teco_core.specs.declared.profile.Profile.{Profile}
 use Rattle.teco_scan.specs.declared.blocks.Kind.TheVariants.{Iter, Then, Else}
 use Rattle.teco_scan.specs.Scan.{Item, Instruction, Scanned, found, ended, fault, scan, after_fillers}
 use Rattle.teco_scan.specs.Scan as token
@@ -89,15 +90,15 @@ at_scan rule go bytes ended at o os = at_end rule o.kind at o
 at_scan rule go bytes (fault code) at o os = Some (rule.breaks at (unreadable code) o)
 
 -- within so many tokens
-unfoldable pub walk_within : {F : Type 0} → ℕ → Rule F → List ℕ → Walker F
-walk_within zero rule bytes o os bs = None
-walk_within (suc n) rule bytes o os bs =
-    at_scan rule (walk_within n rule bytes) bytes (scan bs) (place bytes (after_fillers bs)) o os
+unfoldable pub walk_within : {F : Type 0} → Profile → ℕ → Rule F → List ℕ → Walker F
+walk_within p zero rule bytes o os bs = None
+walk_within p (suc n) rule bytes o os bs =
+    at_scan rule (walk_within p n rule bytes) bytes (scan p bs) (place bytes (after_fillers bs)) o os
 
 -- Each token has a byte, so this is every token.
-unfoldable pub walk : {F : Type 0} → Rule F → List ℕ → Walker F
-walk rule bytes o os bs = walk_within (suc (length bs)) rule bytes o os bs
+unfoldable pub walk : {F : Type 0} → Profile → Rule F → List ℕ → Walker F
+walk p rule bytes o os bs = walk_within p (suc (length bs)) rule bytes o os bs
 
 -- the first fault of a text by a rule, if it has one
-abbrev pub first_by : {F : Type 0} → Rule F → List ℕ → Option F
-first_by rule bytes = walk rule bytes own_list [] bytes
+abbrev pub first_by : {F : Type 0} → Profile → Rule F → List ℕ → Option F
+first_by p rule bytes = walk p rule bytes own_list [] bytes

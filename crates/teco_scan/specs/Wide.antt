@@ -8,25 +8,25 @@ use Rattle.teco_scan.specs.declared.command.Command.TheVariants as command
 use Rattle.teco_scan.specs.declared.command.LevelCommand.TheVariants as level
 use Rattle.teco_scan.specs.declared.command.RegisterCommand.TheVariants as registers
 use Rattle.teco_scan.specs.declared.command.Test.TheVariants as tests
-use Rattle.teco_scan.specs.declared.profile.Profile.TheVariants.{Named, Wide}
-use Rattle.teco_scan.specs.Scan.{bare, register, set_text, step, decide, TokenMeaning, found, fault, scan_by}
+use Rattle.teco_core.specs.declared.profile.Profile.TheVariants.{Named, Wide}
+use Rattle.teco_scan.specs.Scan.{bare, register, set_text, step, decide, TokenMeaning, found, fault, scan}
 use Rattle.teco_scan.specs.declared.table.TheConstants.{WIDE_ROWS}
 use Rattle.teco_scan.specs.Written.{plain, colon, letters, admit_at, admit_colons}
 use Rattle.teco_core.specs.declared.ascii.TheConstants.{ESC}
 
 -- What Named finds, Wide finds too.
 abbrev pub WideKeeps : Type 0
-WideKeeps = (bs rest : List ℕ) (t : TokenMeaning) → scan_by Named bs ≡ found t rest → scan_by Wide bs ≡ found t rest
+WideKeeps = (bs rest : List ℕ) (t : TokenMeaning) → scan Named bs ≡ found t rest → scan Wide bs ≡ found t rest
 
 -- What Wide finds, Named finds too, or it is ILL or IQC there.
 abbrev pub WideAdds : Type 0
-WideAdds = (bs rest : List ℕ) (t : TokenMeaning) → scan_by Wide bs ≡ found t rest
-    → (scan_by Named bs ≡ found t rest) ⊎ (scan_by Named bs ≡ fault Ill) ⊎ (scan_by Named bs ≡ fault Iqc)
+WideAdds = (bs rest : List ℕ) (t : TokenMeaning) → scan Wide bs ≡ found t rest
+    → (scan Named bs ≡ found t rest) ⊎ (scan Named bs ≡ fault Ill) ⊎ (scan Named bs ≡ fault Iqc)
 
 -- In Wide the bytes are this token, and nothing is left of them. In Named they are this fault.
 pub record IsWideToken (bs : List ℕ) (order : TokenMeaning) (code : Code) : Type 0 where
-  pub wide : scan_by Wide bs ≡ found order []
-  pub named : scan_by Named bs ≡ fault code
+  pub wide : scan Wide bs ≡ found order []
+  pub named : scan Named bs ≡ fault code
 
 -- the names of the rows of Wide before which an @ may stand, and of those before which so many colons may
 abbrev pub wide_at : List (List ℕ)

@@ -17,6 +17,7 @@ use Rattle.teco_scan.specs.declared.command.BlockMark.TheVariants.{Iterate, EndI
 use Rattle.teco_scan.specs.declared.command.Test.TheVariants as tests
 use Rattle.teco_scan.specs.declared.command.Name.{Name}
 use Rattle.teco_scan.specs.declared.command.Name.TheVariants.{One, Two, Three, Control}
+use Rattle.teco_core.specs.declared.profile.Profile.TheVariants.{Named}
 use Rattle.teco_scan.specs.declared.table.TheConstants.{ROWS}
 use Rattle.teco_scan.specs.Scan.{digits, bare, register, byte, text, set_text, replace, Instruction, step, mark, decide, tag, escape, TokenMeaning, found, fault, no_modifiers, scan}
 use Prim.Native.Char.{code}
@@ -32,9 +33,9 @@ at_sign i = record { modifiers = record { at = true; colons = 0 }; instruction =
 abbrev pub colon : Instruction → TokenMeaning
 colon i = record { modifiers = record { at = false; colons = 1 }; instruction = i }
 
--- The bytes are this token, and nothing is left of them.
+-- In Named the bytes are this token, and nothing is left of them.
 abbrev pub IsToken : List ℕ → TokenMeaning → Type 0
-IsToken bs order = scan bs ≡ found order []
+IsToken bs order = scan Named bs ≡ found order []
 
 -- The bytes are a command after which nothing follows.
 abbrev pub IsBare : List ℕ → Bare → Type 0
@@ -79,7 +80,7 @@ pub record PlainCommandsAreSpelled : Type 0 where
   pub caret_T_types_a_byte : IsCommand (codes "^T") command.TypeByte
   pub equals_prints : IsCommand (codes "=") command.Print
   pub two_equals_print_octal : IsCommand (codes "==") command.PrintOctal
-  pub three_equals_are_refused : scan (codes "===") ≡ fault Ill
+  pub three_equals_are_refused : scan Named (codes "===") ≡ fault Ill
   pub Y_goes_to_the_next_page : IsCommand (codes "Y") command.NextPage
   pub P_turns_pages : IsCommand (codes "P") command.TurnPages
   pub PW_writes_the_page : IsCommand (codes "PW") command.WritePage

@@ -6,12 +6,13 @@ ghost use Rattle.teco_scan.specs.Skip.{AreAlike, byte_of, IsClosed, IsWholeClose
 ghost use Rattle.teco_scan.specs.Seen.{instruction_in, IsKindIn};
 ghost use Rattle.teco_scan.specs.Closes.{close_of, past_of, tag_of};
 ghost use Rattle.teco_scan.specs.Lists.{at_instruction, at_mark, behind, behind_block, list_at, tag_at, tag_at_instruction, tag_behind};
-ghost use Rattle.teco_scan.specs.ListLaws.{BlockLaws};
+ghost use Rattle.teco_scan.specs.ListLaws.{EachBlockLaws};
 ghost use Rattle.teco_scan.specs.Nesting.{IsNested};
 ghost use Rattle.teco_scan.specs.declared.command.Modifiers.{Modifiers};
+ghost use Rattle.teco_core.specs.declared.profile.Profile.{Profile};
 
 use crate::{BlockMark, Form, Found, Token, TokenKind, lone_form, token_at};
-use teco_core::{BLOCK_LIMIT, Code, is_filler};
+use teco_core::{BLOCK_LIMIT, Code, Profile, is_filler};
 
 /// The kinds of open blocks: an iteration's body, a conditional's first part and its second.
 #[derive(Clone, Copy, PartialEq, Eq)]
@@ -65,8 +66,8 @@ fn is_tag(text: &[u8], kind: TokenKind, name: &[u8]) -> bool
 /// What a closing mark does to the innermost block, where the mark ends at this place.
 fn end_of_block(kind: Kind, mark: BlockMark, to: usize) -> Result<SkipEnd, Code>
     requires { mark ≢ BlockMark.Iterate }
-    ensures closes { (text : List ℕ) (d : ℕ)
-        → close_of text result ≡ (at_mark list_at mark (drop to text) (Some kind) d).1 }
+    ensures closes { (p : Profile) (text : List ℕ) (d : ℕ)
+        → close_of text result ≡ (at_mark (list_at p) mark (drop to text) (Some kind) d).1 }
     ensures place { IfOk result (λ stop. stop.to ≡ to) }
     ensures divided { IfOk result (λ stop. stop.divided ≡ true → kind ≡ Kind.Then) }
     ensures ends { (text : List ℕ) → drop (to - 1) text ≡ byte_of mark ∷ drop to text
@@ -87,7 +88,7 @@ fn end_of_block(kind: Kind, mark: BlockMark, to: usize) -> Result<SkipEnd, Code>
 /// nothing after that, but no mark.
 #[inline]
 fn is_passed(b: u8) -> bool
-    ensures { result ≡ true → (bs : List ℕ) → AreAlike (b ∷ bs) bs }
+    ensures { result ≡ true → (p : Profile) (bs : List ℕ) → AreAlike p (b ∷ bs) bs }
 {
     if is_filler(b) || b.is_ascii_digit() {
         return true;
@@ -103,7 +104,7 @@ fn is_passed(b: u8) -> bool
 #[inline]
 pub(crate) fn passed_end(text: &[u8], at: usize) -> usize
     requires { at ≤ length text.now }
-    ensures alike { AreAlike (drop at text.now) (drop result text.now) }
+    ensures alike { (p : Profile) → AreAlike p (drop at text.now) (drop result text.now) }
     ensures within { (at ≤ result) × (result ≤ length text.now) }
 {
     let mut to = at;
@@ -115,16 +116,21 @@ pub(crate) fn passed_end(text: &[u8], at: usize) -> usize
 
 /// The place after a token and, where it opens a block, after the whole of that.
 #[cycle(skip)]
-pub(crate) fn skip_node(text: &[u8], token: Token, depth: usize) -> Result<usize, Code>
+pub(crate) fn skip_node(
+    profile: Profile,
+    text: &[u8],
+    token: Token,
+    depth: usize,
+) -> Result<usize, Code>
     requires inside { token.span.to ≤ length text.now }
     requires few { depth ≤ BLOCK_LIMIT }
     requires node { closing_mark (instruction_in text.now token.kind) ≡ None }
     ensures closes { (k : Option Kind) (m : Modifiers)
-        → (at_instruction list_at (instruction_in text.now token.kind) m
-        (drop token.span.to text.now) k depth).1 ≡ (behind list_at k depth (past_of text.now result)).1 }
+        → (at_instruction (list_at profile) (instruction_in text.now token.kind) m
+        (drop token.span.to text.now) k depth).1 ≡ (behind (list_at profile) k depth (past_of text.now result)).1 }
     ensures finds { (name : List ℕ) → is_tag name (instruction_in text.now token.kind) ≡ false
-        → tag_at_instruction name (tag_at name) (instruction_in text.now token.kind)
-        (drop token.span.to text.now) depth ≡ tag_behind (tag_at name) depth (past_of text.now result) }
+        → tag_at_instruction profile name (tag_at profile name) (instruction_in text.now token.kind)
+        (drop token.span.to text.now) depth ≡ tag_behind (tag_at profile name) depth (past_of text.now result) }
     ensures within { IfOk result (λ to. (token.span.to ≤ to) × (to ≤ length text.now)) }
     ensures fault { IfErr result (λ code. is_fault code ≡ true) }
 {
@@ -134,7 +140,7 @@ pub(crate) fn skip_node(text: &[u8], token: Token, depth: usize) -> Result<usize
             if depth == BLOCK_LIMIT {
                 return Err(Code::Pdo);
             }
-            skip_whole_block(text, token.span.to, kind, depth + 1)
+            skip_whole_block(profile, text, token.span.to, kind, depth + 1)
         }
     }
 }
@@ -145,10 +151,16 @@ pub(crate) fn skip_node(text: &[u8], token: Token, depth: usize) -> Result<usize
 /// is that of the first token that is none, else UTC where the text ends inside a block, BNI or ILL at a mark that ends
 /// or divides no such block, and PDO at the 65th open block. It takes no memory.
 #[cycle(skip)]
-pub fn skip_block(text: &[u8], at: usize, kind: Kind, depth: usize) -> Result<SkipEnd, Code>
+pub fn skip_block(
+    profile: Profile,
+    text: &[u8],
+    at: usize,
+    kind: Kind,
+    depth: usize,
+) -> Result<SkipEnd, Code>
     requires inside { at ≤ length text.now }
     requires few { depth ≤ BLOCK_LIMIT }
-    ensures closes { close_of text.now result ≡ (list_at (Some kind) depth (drop at text.now)).1 }
+    ensures closes { close_of text.now result ≡ (list_at profile (Some kind) depth (drop at text.now)).1 }
     ensures within { IfOk result (λ stop. (at < stop.to) × (stop.to ≤ length text.now)) }
     ensures divided { IfOk result (λ stop. stop.divided ≡ true → kind ≡ Kind.Then) }
     ensures ends { IfOk result (λ stop. IsClosed text.now kind stop) }
@@ -157,12 +169,12 @@ pub fn skip_block(text: &[u8], at: usize, kind: Kind, depth: usize) -> Result<Sk
     let mut next = at;
     loop {
         let start = passed_end(text, next);
-        match token_at(text, start) {
+        match token_at(profile, text, start) {
             Found::End => return Err(Code::Utc),
             Found::Fault(code) => return Err(code),
             Found::Token(token) => match closing_mark(token.kind) {
                 Some(mark) => return end_of_block(kind, mark, token.span.to),
-                None => next = skip_node(text, token, depth)?,
+                None => next = skip_node(profile, text, token, depth)?,
             },
         }
     }
@@ -174,18 +186,24 @@ pub fn skip_block(text: &[u8], at: usize, kind: Kind, depth: usize) -> Result<Sk
 /// Places count the bytes before them; the depth counts the open blocks, this one too. The faults are those of `skip_block`. It
 /// takes no memory.
 #[cycle(skip)]
-pub fn skip_whole_block(text: &[u8], at: usize, kind: Kind, depth: usize) -> Result<usize, Code>
+pub fn skip_whole_block(
+    profile: Profile,
+    text: &[u8],
+    at: usize,
+    kind: Kind,
+    depth: usize,
+) -> Result<usize, Code>
     requires inside { at ≤ length text.now }
     requires few { depth ≤ BLOCK_LIMIT }
     ensures passes { past_of text.now result
-        ≡ behind_block list_at kind depth (list_at (Some kind) depth (drop at text.now)).1 }
+        ≡ behind_block (list_at profile) kind depth (list_at profile (Some kind) depth (drop at text.now)).1 }
     ensures within { IfOk result (λ to. (at < to) × (to ≤ length text.now)) }
     ensures fault { IfErr result (λ code. is_fault code ≡ true) }
     ensures ends { IfOk result (λ to. IsWholeClosed text.now kind to) }
 {
-    let stop = skip_block(text, at, kind, depth)?;
+    let stop = skip_block(profile, text, at, kind, depth)?;
     if stop.divided {
-        let end = skip_block(text, stop.to, Kind::Else, depth)?;
+        let end = skip_block(profile, text, stop.to, Kind::Else, depth)?;
         return Ok(end.to);
     }
     Ok(stop.to)
@@ -195,17 +213,23 @@ pub fn skip_whole_block(text: &[u8], at: usize, kind: Kind, depth: usize) -> Res
 ///
 /// Places count the bytes before them; the depth counts the open blocks, so that 0 is the text itself. There is none
 /// where the block ends, is divided or has a fault before such a tag. It takes no memory.
-pub fn find_tag(text: &[u8], block_start: usize, depth: usize, name: &[u8]) -> Option<usize>
+pub fn find_tag(
+    profile: Profile,
+    text: &[u8],
+    block_start: usize,
+    depth: usize,
+    name: &[u8],
+) -> Option<usize>
     requires inside { block_start ≤ length text.now }
     requires few { depth ≤ BLOCK_LIMIT }
-    ensures finds { tag_of text.now result ≡ tag_at name.now depth (drop block_start text.now) }
+    ensures finds { tag_of text.now result ≡ tag_at profile name.now depth (drop block_start text.now) }
     ensures within { IfSome result (λ to. (block_start < to) × (to ≤ length text.now)) }
     ensures ends { IfSome result (λ to. IsBehindTag text.now to) }
 {
     let mut next = block_start;
     loop {
         let start = passed_end(text, next);
-        match token_at(text, start) {
+        match token_at(profile, text, start) {
             Found::End => return None,
             Found::Fault(_) => return None,
             Found::Token(token) => {
@@ -215,7 +239,7 @@ pub fn find_tag(text: &[u8], block_start: usize, depth: usize, name: &[u8]) -> O
                 if closing_mark(token.kind).is_some() {
                     return None;
                 }
-                match skip_node(text, token, depth) {
+                match skip_node(profile, text, token, depth) {
                     Ok(to) => next = to,
                     Err(_) => return None,
                 }
@@ -227,11 +251,11 @@ pub fn find_tag(text: &[u8], block_start: usize, depth: usize, name: &[u8]) -> O
 /// The laws of lists, as its clause: by which equations a list and the search for a tag unroll over their tokens, that each
 /// token has a byte, that the search leads to what the list has after the tag, and which faults there are.
 pub fn block_laws()
-    ensures { BlockLaws }
+    ensures { EachBlockLaws }
 {}
 
 /// The law of nesting, as its clause: the tokens of a text, up to its first fault, nest as its nodes say, by a rule for each
 /// kind of node and two for a conditional. The call does nothing.
 pub fn nesting()
-    ensures nested { (text : List ℕ) → IsNested text }
+    ensures nested { (p : Profile) (text : List ℕ) → IsNested p text }
 {}

@@ -10,11 +10,11 @@ ghost use Rattle.teco_scan.specs.Skip.{is_tag};
 ghost use Rattle.teco_scan.specs.Seen.{instruction_in};
 
 use crate::blocks::{closing_mark, find_tag, passed_end, skip_node};
-use crate::{Found, Span, TokenKind, token_at};
+use crate::{Found, Span, Text, TokenKind, token_at};
 use std::alloc::Global;
 use std::collections::BTreeMap;
 use std::marker::Model;
-use teco_core::{BLOCK_LIMIT, NoMemory};
+use teco_core::{BLOCK_LIMIT, NoMemory, Profile};
 
 /// The tags that are directly in a list: the place after the first of each name.
 type Places<'t> = BTreeMap<&'t [u8], usize>;
@@ -33,21 +33,22 @@ type Lists<'t> = BTreeMap<usize, ListTags<'t>>;
 ///
 /// A clause sees the text. What was gathered of it changes nothing that a clause says.
 pub struct Tags<'t> {
-    text: &'t [u8],
+    text: Text<'t>,
     /// Without memory nothing is gathered.
     memory: Option<Global>,
     lists: Option<BTreeMap<usize, ListTags<'t>>>,
 }
 
 impl<'t> Model for Tags<'t> {
-    ghost use Rattle.std.specs.Prelude.{IfSome, List, ℕ};
+    ghost use Rattle.std.specs.Prelude.{IfSome};
     ghost use Rattle.teco_scan.specs.GatheredLists.{AreGathered};
+    ghost use Rattle.teco_scan.specs.declared.text.Text.{Text};
 
-    ghost Value = { List ℕ };
+    ghost Value = { Text };
 
-    ghost view = { λ r. r.text.now };
+    ghost view = { λ r. r.text };
 
-    ghost invariant = { λ r. IfSome r.lists (AreGathered r.text.now) };
+    ghost invariant = { λ r. IfSome r.lists (AreGathered r.text.profile r.text.bytes.now) };
 }
 
 impl Drop for Tags<'_> {
@@ -85,19 +86,20 @@ fn keep_first<'t>(places: &mut Places<'t>, name: &'t [u8], to: usize) -> Result<
 /// The tags that are directly in the block which goes on from a place: for each name what [`find_tag`] gives.
 fn tags_in<'t>(
     alloc: Global,
+    profile: Profile,
     text: &'t [u8],
     block_start: usize,
     depth: usize,
 ) -> Result<Places<'t>, NoMemory>
     requires inside { block_start ≤ length text.now }
     requires few { depth ≤ BLOCK_LIMIT }
-    ensures { IfOk result (AreTags text.now block_start depth) }
+    ensures { IfOk result (AreTags profile text.now block_start depth) }
 {
     let mut places = BTreeMap::new(alloc);
     let mut next = block_start;
     'gathering: loop {
         let start = passed_end(text, next);
-        match token_at(text, start) {
+        match token_at(profile, text, start) {
             Found::End => return Ok(places),
             Found::Fault(_) => return Ok(places),
             Found::Token(token) => {
@@ -109,7 +111,7 @@ fn tags_in<'t>(
                 if closing_mark(token.kind).is_some() {
                     return Ok(places);
                 }
-                match skip_node(text, token, depth) {
+                match skip_node(profile, text, token, depth) {
                     Ok(to) => next = to,
                     Err(_) => return Ok(places),
                 }
@@ -122,19 +124,20 @@ fn tags_in<'t>(
 fn add_list<'t>(
     lists: &mut Lists<'t>,
     alloc: Global,
+    profile: Profile,
     text: &'t [u8],
     block_start: usize,
     depth: usize,
 ) -> Result<(), NoMemory>
     requires inside { block_start ≤ length text.now }
     requires few { depth ≤ BLOCK_LIMIT }
-    requires gathered { AreGathered text.now lists.old }
-    ensures { AreGathered text.now lists.new }
+    requires gathered { AreGathered profile text.now lists.old }
+    ensures { AreGathered profile text.now lists.new }
 {
     if lists.contains_key(&block_start) {
         return Ok(());
     }
-    let places = tags_in(alloc, text, block_start, depth)?;
+    let places = tags_in(alloc, profile, text, block_start, depth)?;
     lists.insert(block_start, ListTags { depth, places })?;
     Ok(())
 }
@@ -143,8 +146,8 @@ impl<'t> Tags<'t> {
     ghost use Rattle.std.specs.Prelude.{◌≡◌, ◌≤◌};
 
     /// Nothing is gathered of this text yet.
-    pub fn new(text: &'t [u8], memory: Option<Global>) -> Tags<'t>
-        ensures { result ≡ text.now }
+    pub fn new(text: Text<'t>, memory: Option<Global>) -> Tags<'t>
+        ensures { result ≡ text.entry }
     {
         Tags {
             text,
@@ -155,7 +158,7 @@ impl<'t> Tags<'t> {
 
     /// Gathers the tags of the block which goes on from a place, unless they are gathered. Where memory is refused, nothing is kept of them.
     pub fn gather(&mut self, block_start: usize, depth: usize) -> Result<(), NoMemory>
-        requires inside { block_start ≤ length self.old }
+        requires inside { block_start ≤ length self.old.bytes.now }
         requires few { depth ≤ BLOCK_LIMIT }
         ensures { self.new ≡ self.old }
     {
@@ -166,7 +169,14 @@ impl<'t> Tags<'t> {
             Some(lists) => lists,
             None => BTreeMap::new(alloc),
         };
-        let added = add_list(&mut lists, alloc, self.text, block_start, depth);
+        let added = add_list(
+            &mut lists,
+            alloc,
+            self.text.profile,
+            self.text.bytes,
+            block_start,
+            depth,
+        );
         self.lists = Some(lists);
         added
     }
@@ -181,10 +191,10 @@ impl<'t> Tags<'t> {
 
     /// What [`find_tag`] gives of the text: at once where the tags of the block were gathered.
     pub fn find(&self, block_start: usize, depth: usize, name: &[u8]) -> Option<usize>
-        requires inside { block_start ≤ length self.now }
+        requires inside { block_start ≤ length self.now.bytes.now }
         requires few { depth ≤ BLOCK_LIMIT }
-        ensures finds { tag_of self.now result ≡ tag_at name.now depth (drop block_start self.now) }
-        ensures within { IfSome result (λ to. to ≤ length self.now) }
+        ensures finds { tag_of self.now.bytes.now result ≡ tag_at self.now.profile name.now depth (drop block_start self.now.bytes.now) }
+        ensures within { IfSome result (λ to. to ≤ length self.now.bytes.now) }
     {
         if let Some(lists) = &self.lists
             && let Some(list) = lists.get(&block_start)
@@ -192,6 +202,6 @@ impl<'t> Tags<'t> {
         {
             return list.places.get(name).copied();
         }
-        find_tag(self.text, block_start, depth, name)
+        find_tag(self.text.profile, self.text.bytes, block_start, depth, name)
     }
 }

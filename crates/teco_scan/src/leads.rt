@@ -2,17 +2,17 @@
 ghost use Rattle.std.specs.Prelude.{◌≡◌, ◌<◌, ◌≤◌, length, drop, IfSome, slice_index, true};
 ghost use Rattle.teco_core.specs.Ascii.{is_digit};
 ghost use Rattle.teco_scan.specs.Led.{Begins, IsLed};
-ghost use Rattle.teco_scan.specs.Scan.{no_modifiers, scan, scan_by, run_of, after_run, after_fillers};
+ghost use Rattle.teco_scan.specs.Scan.{no_modifiers, scan, run_of, after_run, after_fillers};
 ghost use Rattle.teco_scan.specs.Seen.{IsFoundAt, bytes_in, found_in};
 ghost use Rattle.teco_scan.specs.declared.command.Form.TheVariants as form;
-ghost use Rattle.teco_scan.specs.declared.profile.Profile.{Profile};
+ghost use Rattle.teco_core.specs.declared.profile.Profile.{Profile};
 
 use crate::command::{Bare, BlockMark, Form, RegisterCommand, TextCommand};
 use crate::names::lone_form;
 use crate::operand::{register_at, replace_at, test_at, text_at};
-use crate::profile::Profile;
 use crate::table::NONE;
 use crate::token::{Found, Item, Span, Token, TokenKind};
+use teco_core::Profile;
 
 /// The end of the text, where no byte is left after the fillers.
 #[inline(always)]
@@ -20,8 +20,7 @@ use crate::token::{Found, Item, Span, Token, TokenKind};
 pub fn end_found(text: &[u8], at: usize, from: usize) -> Found
     requires rest { drop from text.now ≡ after_fillers (drop at text.now) }
     requires over { from ≡ length text.now }
-    ensures read { found_in text.now result ≡ scan (drop at text.now) }
-    ensures each { (p : Profile) → found_in text.now result ≡ scan_by p (drop at text.now) }
+    ensures read { (p : Profile) → found_in text.now result ≡ scan p (drop at text.now) }
     ensures place { IsFoundAt text.now at result }
 {
     Found::End
@@ -73,8 +72,7 @@ fn plain(from: usize, to: usize, kind: TokenKind) -> Found
 pub fn digits_token(text: &[u8], at: usize, from: usize) -> Found
     requires begins { Begins text.now at from }
     requires first { is_digit (slice_index text.now from) ≡ true }
-    ensures read { found_in text.now result ≡ scan (drop at text.now) }
-    ensures each { (p : Profile) → found_in text.now result ≡ scan_by p (drop at text.now) }
+    ensures read { (p : Profile) → found_in text.now result ≡ scan p (drop at text.now) }
     ensures place { IsFoundAt text.now at result }
 {
     let to = digits_end(text, from);
@@ -85,8 +83,7 @@ pub fn digits_token(text: &[u8], at: usize, from: usize) -> Found
 #[inline(always)]
 pub fn bare_token(text: &[u8], at: usize, from: usize, command: Bare) -> Found
     requires { IsLed text.now at from (form.Bare command) }
-    ensures read { found_in text.now result ≡ scan (drop at text.now) }
-    ensures each { (p : Profile) → found_in text.now result ≡ scan_by p (drop at text.now) }
+    ensures read { (p : Profile) → found_in text.now result ≡ scan p (drop at text.now) }
     ensures place { IsFoundAt text.now at result }
 {
     plain(from, from + 1, TokenKind::Item(Item::Bare(command)))
@@ -96,8 +93,7 @@ pub fn bare_token(text: &[u8], at: usize, from: usize, command: Bare) -> Found
 #[inline(always)]
 pub fn mark_token(text: &[u8], at: usize, from: usize, mark: BlockMark) -> Found
     requires { IsLed text.now at from (form.Mark mark) }
-    ensures read { found_in text.now result ≡ scan (drop at text.now) }
-    ensures each { (p : Profile) → found_in text.now result ≡ scan_by p (drop at text.now) }
+    ensures read { (p : Profile) → found_in text.now result ≡ scan p (drop at text.now) }
     ensures place { IsFoundAt text.now at result }
 {
     plain(from, from + 1, TokenKind::Mark(mark))
@@ -107,8 +103,7 @@ pub fn mark_token(text: &[u8], at: usize, from: usize, mark: BlockMark) -> Found
 #[inline(always)]
 pub fn escape_token(text: &[u8], at: usize, from: usize) -> Found
     requires { IsLed text.now at from form.Escape }
-    ensures read { found_in text.now result ≡ scan (drop at text.now) }
-    ensures each { (p : Profile) → found_in text.now result ≡ scan_by p (drop at text.now) }
+    ensures read { (p : Profile) → found_in text.now result ≡ scan p (drop at text.now) }
     ensures place { IsFoundAt text.now at result }
 {
     plain(from, from + 1, TokenKind::Escape)
@@ -123,8 +118,7 @@ pub fn register_token(
     command: RegisterCommand,
 ) -> Option<Found>
     requires { IsLed text.now at from (form.Register command) }
-    ensures read { IfSome result (λ found. found_in text.now found ≡ scan (drop at text.now)) }
-    ensures each { IfSome result (λ found. (p : Profile) → found_in text.now found ≡ scan_by p (drop at text.now)) }
+    ensures read { IfSome result (λ found. (p : Profile) → found_in text.now found ≡ scan p (drop at text.now)) }
     ensures place { IfSome result (λ found. IsFoundAt text.now at found) }
 {
     match register_at(text, from + 1) {
@@ -147,8 +141,7 @@ pub fn text_token(
     usual: u8,
 ) -> Option<Found>
     requires { IsLed text.now at from (form.Text command usual) }
-    ensures read { IfSome result (λ found. found_in text.now found ≡ scan (drop at text.now)) }
-    ensures each { IfSome result (λ found. (p : Profile) → found_in text.now found ≡ scan_by p (drop at text.now)) }
+    ensures read { IfSome result (λ found. (p : Profile) → found_in text.now found ≡ scan p (drop at text.now)) }
     ensures place { IfSome result (λ found. IsFoundAt text.now at found) }
 {
     match text_at(usual, text, from + 1) {
@@ -161,8 +154,7 @@ pub fn text_token(
 #[inline(always)]
 pub fn replace_token(text: &[u8], at: usize, from: usize) -> Option<Found>
     requires { Begins text.now at from }
-    ensures read { IfSome result (λ found. found_in text.now found ≡ scan (drop at text.now)) }
-    ensures each { IfSome result (λ found. (p : Profile) → found_in text.now found ≡ scan_by p (drop at text.now)) }
+    ensures read { IfSome result (λ found. (p : Profile) → found_in text.now found ≡ scan p (drop at text.now)) }
     ensures place { IfSome result (λ found. IsFoundAt text.now at found) }
 {
     if text.len() - from < 2 || text[from] != b'F' || text[from + 1] != b'S' {
@@ -178,8 +170,7 @@ pub fn replace_token(text: &[u8], at: usize, from: usize) -> Option<Found>
 #[inline(always)]
 pub fn tag_token(text: &[u8], at: usize, from: usize) -> Option<Found>
     requires { IsLed text.now at from form.Tag }
-    ensures read { IfSome result (λ found. found_in text.now found ≡ scan (drop at text.now)) }
-    ensures each { IfSome result (λ found. (p : Profile) → found_in text.now found ≡ scan_by p (drop at text.now)) }
+    ensures read { IfSome result (λ found. (p : Profile) → found_in text.now found ≡ scan p (drop at text.now)) }
     ensures place { IfSome result (λ found. IsFoundAt text.now at found) }
 {
     match text_at(b'!', text, from + 1) {
@@ -188,22 +179,11 @@ pub fn tag_token(text: &[u8], at: usize, from: usize) -> Option<Found>
     }
 }
 
-/// The beginning of a conditional, where a test follows.
-#[inline(always)]
-#[tactic(auto, unfolding(crate::specs::Scan::scan))]
-pub fn test_token(text: &[u8], at: usize, from: usize) -> Option<Found>
-    requires { IsLed text.now at from form.Test }
-    ensures read { IfSome result (λ found. found_in text.now found ≡ scan (drop at text.now)) }
-    ensures place { IfSome result (λ found. IsFoundAt text.now at found) }
-{
-    test_token_in(Profile::Named, text, at, from)
-}
-
 /// The beginning of a conditional, where a test of the profile follows.
 #[inline(always)]
-pub fn test_token_in(profile: Profile, text: &[u8], at: usize, from: usize) -> Option<Found>
+pub fn test_token(profile: Profile, text: &[u8], at: usize, from: usize) -> Option<Found>
     requires { IsLed text.now at from form.Test }
-    ensures read { IfSome result (λ found. found_in text.now found ≡ scan_by profile (drop at text.now)) }
+    ensures read { IfSome result (λ found. found_in text.now found ≡ scan profile (drop at text.now)) }
     ensures place { IfSome result (λ found. IsFoundAt text.now at found) }
 {
     match test_at(profile, text, from + 1) {

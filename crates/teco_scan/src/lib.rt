@@ -8,10 +8,10 @@ mod gathering;
 mod leads;
 mod names;
 mod operand;
-mod profile;
 mod scan;
 mod stream;
 mod table;
+mod text;
 mod token;
 
 pub use blocks::{
@@ -25,11 +25,11 @@ pub use command::{
 pub use gathering::Tags;
 pub use leads::{
     bare_token, digits_token, end_found, escape_token, lead, mark_token, register_token,
-    replace_token, tag_token, test_token, test_token_in, text_token,
+    replace_token, tag_token, test_token, text_token,
 };
 pub use names::lone_form;
-pub use profile::Profile;
-pub use scan::{filler_end, profile_laws, spelling, token_at, token_in};
+pub use scan::{filler_end, profile_laws, spelling, token_at};
 pub use stream::{HistoryMove, asks_history, ends_in_escape, move_asked, pair_end};
 pub use table::{ROWS, WIDE_ROWS};
+pub use text::Text;
 pub use token::{Found, Item, Span, Token, TokenKind};

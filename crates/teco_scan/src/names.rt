@@ -3,14 +3,13 @@ ghost use Rattle.std.specs.Prelude.{◌≡◌, ◌<◌, ◌≤◌, ℕ, List, �
 ghost use Rattle.teco_scan.specs.Scan.{rows_of, no_modifiers, admits, is_refused, after_name, ends_inside, row_at, is_cut, after_letter, modifiers_at};
 ghost use Rattle.teco_scan.specs.Led.{form_in};
 ghost use Rattle.teco_scan.specs.declared.command.Modifiers.{Modifiers};
-ghost use Rattle.teco_scan.specs.declared.profile.Profile.{Profile};
+ghost use Rattle.teco_core.specs.declared.profile.Profile.{Profile};
 ghost use Rattle.teco_scan.specs.FirstRow.{form_at, named_at, picks};
 ghost use Rattle.teco_scan.specs.Seen.{Gives, GivesSome};
 
 use crate::command::{Form, Modifiers, Name, Row};
-use crate::profile::Profile;
 use crate::table::{FIRST, NONE, ROWS, WIDE_ROWS};
-use teco_core::Code;
+use teco_core::{Code, Profile};
 
 /// At most one `@` and two colons, in any order.
 #[tactic(auto, using(crate::proofs::Places::front, crate::proofs::Places::no_front), unfolding(crate::specs::Scan::modifiers_at))]

@@ -6,10 +6,9 @@ ghost use Rattle.teco_scan.specs.Scan.{letter_test, sign_test, test_of, byte_at,
 ghost use Rattle.teco_scan.specs.Seen.{Gives, IsSpanIn, IsKindIn, IsKindPlaced, bytes_in, instruction_in};
 
 use crate::command::{Form, Modifiers, Test, TextCommand};
-use crate::profile::Profile;
 use crate::token::{Item, Span, TokenKind};
 use memchr::memchr;
-use teco_core::{Code, ESC, Reg};
+use teco_core::{Code, ESC, Profile, Reg};
 
 #[inline]
 fn letter_test(b: u8) -> Option<Test>

@@ -2,7 +2,7 @@
 ghost use Rattle.std.specs.Prelude.{◌≡◌, ◌<◌, ◌≤◌, ℕ, List, length, drop, IfOk, slice_index, true};
 ghost use Rattle.teco_core.specs.Ascii.{is_digit};
 ghost use Rattle.teco_scan.specs.FirstRow.{named_at, with_operand};
-ghost use Rattle.teco_scan.specs.Scan.{rows_of, no_modifiers, scan, scan_by, scanned, run_of, after_run, after_fillers};
+ghost use Rattle.teco_scan.specs.Scan.{rows_of, no_modifiers, scan, scanned, run_of, after_run, after_fillers};
 ghost use Rattle.teco_scan.specs.Spelling.{IsSpelled, IsLongest, IsCutExactly, LacksRegisterExactly, LacksTestExactly, IsIllExactly, IsFaultOfFour, PassesFillers};
 ghost use Rattle.teco_scan.specs.Written.{NumbersAreSpelled, PlainCommandsAreSpelled, RegisterCommandsAreSpelled, TextCommandsAreSpelled, MarksAreSpelled, ModifiersAreAdmitted};
 ghost use Rattle.teco_scan.specs.Table.{is_table};
@@ -13,14 +13,13 @@ ghost use Rattle.teco_scan.specs.Seen.{Gives, IsKindIn, IsKindPlaced, IsFoundAt,
 use crate::command::{Form, Modifiers};
 use crate::leads::{
     bare_token, digits_token, end_found, escape_token, lead, mark_token, register_token, tag_token,
-    test_token_in, text_token,
+    test_token, text_token,
 };
 use crate::names::named_at;
 use crate::operand::operand_at;
-use crate::profile::Profile;
 use crate::table::{ROWS, WIDE_ROWS};
 use crate::token::{Found, Span, Token, TokenKind};
-use teco_core::{Code, is_filler};
+use teco_core::{Code, Profile, is_filler};
 
 /// The place after the fillers: where a token begins, if one does.
 #[inline(always)]
@@ -55,24 +54,13 @@ fn command_from(
     Ok((modifiers, kind, to))
 }
 
-/// What is at a place, after fillers: a token, the end of the text, or a fault.
+/// What is at a place, after fillers: a token of the profile, the end of the text, or a fault.
 ///
 /// The place counts the bytes before it. Of the tokens that the bytes begin with the longest is found. It takes no memory.
 #[inline(always)]
-#[tactic(auto, unfolding(crate::specs::Scan::scan))]
-pub fn token_at(text: &[u8], at: usize) -> Found
+pub fn token_at(profile: Profile, text: &[u8], at: usize) -> Found
     requires { at ≤ length text.now }
-    ensures read { found_in text.now result ≡ scan (drop at text.now) }
-    ensures place { IsFoundAt text.now at result }
-{
-    token_in(Profile::Named, text, at)
-}
-
-/// The same in a profile: [`token_at`] is that of Named.
-#[inline(always)]
-pub fn token_in(profile: Profile, text: &[u8], at: usize) -> Found
-    requires { at ≤ length text.now }
-    ensures read { found_in text.now result ≡ scan_by profile (drop at text.now) }
+    ensures read { found_in text.now result ≡ scan profile (drop at text.now) }
     ensures place { IsFoundAt text.now at result }
 {
     let from = filler_end(text, at);
@@ -102,7 +90,7 @@ pub fn token_in(profile: Profile, text: &[u8], at: usize) -> Found
             }
         }
         Some(Form::Test) => {
-            if let Some(found) = test_token_in(profile, text, at, from) {
+            if let Some(found) = test_token(profile, text, at, from) {
                 return found;
             }
         }

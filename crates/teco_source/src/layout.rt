@@ -1,7 +1,7 @@
 //! Where a listing breaks its lines.
 ghost use Rattle.std.specs.Prelude.{◌≡◌, ◌<◌, ◌≤◌, length, IfSome, IsTrue};
 
-use teco_core::ESC;
+use teco_core::{ESC, Profile};
 use teco_scan::{
     Bare, BlockMark, Found, Item, Kind, LevelCommand, RegisterCommand, TokenKind, skip_whole_block,
     token_at,
@@ -91,7 +91,7 @@ fn short_block(text: &[u8], at: usize, kind: Kind, limit: usize) -> Option<usize
     if at > limit || limit > text.len() {
         return None;
     }
-    match skip_whole_block(&text[..limit], at, kind, 1) {
+    match skip_whole_block(Profile::Named, &text[..limit], at, kind, 1) {
         Ok(to) => Some(to),
         Err(_) => None,
     }
@@ -135,7 +135,7 @@ impl Layout {
     fn margin(&self, text: &[u8], at: usize) -> usize
         requires { at ≤ length text.now }
     {
-        let depth = match token_at(text, at) {
+        let depth = match token_at(Profile::Named, text, at) {
             Found::Token(token) => match role_of(token.kind, false) {
                 TokenRole::Closes | TokenRole::Divides => self.depth.saturating_sub(1),
                 _ => self.depth,
@@ -178,7 +178,7 @@ impl Layout {
         let mut to = at;
         let mut has_number = false;
         while to < text.len() {
-            let Found::Token(token) = token_at(text, to) else {
+            let Found::Token(token) = token_at(Profile::Named, text, to) else {
                 return text.len();
             };
             let role = role_of(token.kind, has_number);

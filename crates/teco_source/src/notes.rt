@@ -3,7 +3,7 @@ ghost use Rattle.std.specs.Prelude.{◌≡◌, ◌≤◌, length};
 
 use crate::layout::{TokenRole, role_of};
 use crate::words::words_of;
-use teco_core::NoMemory;
+use teco_core::{NoMemory, Profile};
 use teco_scan::{Found, Token, TokenKind, token_at};
 
 /// Puts the words of a token at the end of a note.
@@ -25,7 +25,7 @@ pub fn push_words(out: &mut Vec<u8>, text: &[u8], at: usize, to: usize) -> Resul
     let mut place = at;
     let mut has_number = false;
     while place < to && place < text.len() {
-        let Found::Token(token) = token_at(text, place) else {
+        let Found::Token(token) = token_at(Profile::Named, text, place) else {
             return Ok(());
         };
         if token.span.from >= to {

@@ -53,7 +53,7 @@ as_done s t load m = record {
 
 change_works : (s : State) (m : Made) → MadeWorks s m → AttemptWorks s (goes_on s m)
 change_works s (Ok c) (inl (stays, none)) = inl (ap (λ (t : State). record t { is_done = s.is_done }) stays, none)
-change_works s (Ok c) (inr (typed, moves)) = inr (typed, λ within. as_done s c.state c.load (moves within))
+change_works s (Ok c) (inr (typed, keeps, moves)) = inr (typed, keeps, λ within. as_done s c.state c.load (moves within))
 change_works s (Err c) h = tt
 
 action_works : (f : Action) (s : State) (a : Arguments) → ActionWorks f → AttemptWorks s (done_by f s a)
@@ -65,13 +65,13 @@ leave_works true left s = inl (refl, refl)
 leave_works false left s = tt
 
 exit_works : (s t : State) → with_output_in_limit (finished s) ≡ Ok t → Works s t [] (length s.text)
-exit_works s t e = within_limit s (finished s) t (length s.text) (output_is (finished s) t e) (λ within. exit_moves s)
+exit_works s t e = within_limit s (finished s) t (length s.text) (output_is (finished s) t e) refl (λ within. exit_moves s)
 
 -- The actions, as the effect dispatches them. What a command comes to after it has taken its arguments has one lemma here.
 command_works : (c : Command) (w : Setting) → ActionWorks (command_effect c w)
 command_works command.Leave w = λ s a. attempt_then s (takes_one_or (truth s.last_found) a) _ (λ n e. leave_works w.inside (is_left w.modifiers n) s)
 command_works command.TurnPages w = λ s a.
-    attempt_then s (pages_left w.work a) _ (λ n e. attempt_then s (with_page_turned s) _ (λ t h. within_limit s (with_next_page s) t (page_load s) (turned_is s t h) (λ within. turn_moves s)))
+    attempt_then s (pages_left w.work a) _ (λ n e. attempt_then s (with_page_turned s) _ (λ t h. within_limit s (with_next_page s) t (page_load s) (turned_is s t h) refl (λ within. turn_moves s)))
 command_works command.Exit w = λ s a. attempt_then s (takes_none a) _ (λ none e. attempt_then s (with_output_in_limit (finished s)) _ (λ t h. exit_works s t h))
 command_works command.Jump w = λ s a. made_then s (takes_one_or (pos 0) a) _ (λ n e. made_then s (place_or code.Pop s n) _ (λ place h. moves_works s a place))
 command_works command.Forward w = λ s a. made_then s (takes_one_or (pos 1) a) _ (λ n e. made_then s (place_or code.Pop s (pos s.pointer +ℤ n)) _ (λ place h. moves_works s a place))
@@ -119,11 +119,15 @@ settled_works (Err c) s a h = inl (refl, refl)
 
 moves_by_work : (s t : State) (typed : List ℕ) (load : ℕ) → Works s t typed load → s.pointer ≤ length s.text → Moves s t load
 moves_by_work s t typed load (inl (stays, none)) within = subst (λ (u : State). Moves s u load) (sym stays) (subst (λ n. Moves s s n) (sym none) (nothing_moves s))
-moves_by_work s t typed load (inr (silent, moves)) within = moves within
+moves_by_work s t typed load (inr (silent, keeps, moves)) within = moves within
+
+profile_by_work : (s t : State) (typed : List ℕ) (load : ℕ) → Works s t typed load → t.profile ≡ s.profile
+profile_by_work s t typed load (inl (stays, none)) = ap (λ (u : State). u.profile) stays
+profile_by_work s t typed load (inr (silent, keeps, moves)) = keeps
 
 apart_by_work : (s t : State) (typed : List ℕ) (load : ℕ) → Works s t typed load → (t ≡ s) ⊎ (typed ≡ [])
 apart_by_work s t typed load (inl (stays, none)) = inl stays
-apart_by_work s t typed load (inr (silent, moves)) = inr silent
+apart_by_work s t typed load (inr (silent, keeps, moves)) = inr silent
 
 module _ (long : Long) (is_forward : Forward) (is_backward : Backward) (spelled : Spelled) where
   item_works : (i : Item) (w : Setting) → ActionWorks (item_effect i w)
@@ -141,6 +145,9 @@ module _ (long : Long) (is_forward : Forward) (is_backward : Backward) (spelled 
 
   pub changes_or_types : (i : Item) (w : Setting) (s : State) (a : Arguments) → ((effect i w s a).state ≡ s) ⊎ ((effect i w s a).typed ≡ [])
   changes_or_types i w s a = apart_by_work s (effect i w s a).state (effect i w s a).typed (effect i w s a).load (effect_works i w s a)
+
+  pub profile_stays : (i : Item) (w : Setting) (s : State) (a : Arguments) → (effect i w s a).state.profile ≡ s.profile
+  profile_stays i w s a = profile_by_work s (effect i w s a).state (effect i w s a).typed (effect i w s a).load (effect_works i w s a)
 
   pub load_moves : (i : Item) (w : Setting) (s : State) (a : Arguments) → s.pointer ≤ length s.text → Moves s (effect i w s a).state (effect i w s a).load
   load_moves i w s a within = moves_by_work s (effect i w s a).state (effect i w s a).typed (effect i w s a).load (effect_works i w s a) within

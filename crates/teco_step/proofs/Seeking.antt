@@ -1,5 +1,5 @@
 -- What a search does: its load is what it moves.
-use Rattle.std.proofs.Common.{◌≡◌, ◌∙◌, ℕ, ◌+◌, ◌-◌, ◌≤◌, Bool, true, false, List, length, Option, None, Some, Result, Ok, ℤ, arith}
+use Rattle.std.proofs.Common.{◌≡◌, ◌∙◌, refl, ℕ, ◌+◌, ◌-◌, ◌≤◌, Bool, true, false, List, length, Option, None, Some, Result, Ok, ℤ, arith}
 use Rattle.std.specs.Prelude.{nat_le}
 use Rattle.teco_core.specs.declared.code.Code.{Code}
 use Rattle.teco_core.specs.declared.code.Code.TheVariants as code
@@ -27,7 +27,7 @@ search_is u t e = limit_by (nat_le (length_of u.last_search) TEXT_LIMIT) code.Bi
 notes_works : (text : List ℕ) (is_found : Bool) (place : ℕ) (a : Arguments) (end : End) (s : State) → AttemptWorks s (notes text is_found place a end s)
 notes_works text is_found place a end s =
     let u : State = noted s (noted_text text) is_found place in
-    attempt_then s (with_search_in_limit u) _ (λ t e. within_limit s u t (note_load s (noted_text text)) (search_is u t e) (λ within. note_moves s (noted_text text) is_found place))
+    attempt_then s (with_search_in_limit u) _ (λ t e. within_limit s u t (note_load s (noted_text text)) (search_is u t e) refl (λ within. note_moves s (noted_text text) is_found place))
 
 searched_works : (text : List ℕ) (w : Setting) (m : Option Span) (s : State) (a : Arguments) → AttemptWorks s (searched text w m s a)
 searched_works text w None s a = notes_works text false 0 (answers w false) (end_failed w) s
@@ -55,7 +55,7 @@ replaces_works text bytes w m s lies =
     let high : m.1 ≤ length s.text = lies.1 in
     let there : m.0 + (m.1 - m.0) ≤ length s.text = omega (arith, low, high) in
     attempt_then s (with_text_in_limit u) _ (λ t e. attempt_then s (with_search_in_limit t) _ (λ v h.
-    within_limit s u v load (text_is u t e ∙ search_is t v h) (λ within. replacement_moves s (noted_text text) m.0 (m.1 - m.0) bytes there)))
+    within_limit s u v load (text_is u t e ∙ search_is t v h) refl (λ within. replacement_moves s (noted_text text) m.0 (m.1 - m.0) bytes there)))
 
 module _ (long : Long) (is_forward : Forward) (is_backward : Backward) (spelled : Spelled) where
   replaced_works : (text bytes : List ℕ) (w : Setting) (m : Option Span) (s : State) (a : Arguments) → found text s a ≡ Ok m → AttemptWorks s (replaced_or_not text bytes w m s a)
@@ -80,9 +80,9 @@ page_works text w s a =
     attempt_then s (wanted w.work a) _ (λ n e. attempt_then s (sought text s) _ (λ q h. page_searched_works text w n q (occurrence q s.text s.pointer n) s a))
 
 -- a page that comes in by a change whose load is that of a page
-module _ (with_next : State → Result State Code) (u : State → State) (is : (s t : State) → with_next s ≡ Ok t → u s ≡ t) (brings : (s : State) → Moves s (u s) (page_load s)) where
+module _ (with_next : State → Result State Code) (u : State → State) (is : (s t : State) → with_next s ≡ Ok t → u s ≡ t) (keeps : (s : State) → (u s).profile ≡ s.profile) (brings : (s : State) → Moves s (u s) (page_load s)) where
   goes_works : (left : ℤ) (s : State) → AttemptWorks s (goes_to_page with_next left s)
-  goes_works left s = attempt_then s (with_next s) _ (λ t e. within_limit s (u s) t (page_load s) (is s t e) (λ within. brings s))
+  goes_works left s = attempt_then s (with_next s) _ (λ t e. within_limit s (u s) t (page_load s) (is s t e) (keeps s) (λ within. brings s))
 
   step_works : (work : Option Work) (text : List ℕ) (w : Setting) (s : State) (a : Arguments) → AttemptWorks s (step_of with_next work text w s a)
   step_works None text w s a = page_works text w s a
@@ -92,7 +92,7 @@ module _ (with_next : State → Result State Code) (u : State → State) (is : (
   over_pages text w s a = step_works w.work text w s a
 
 pub seeks_turning : (text : List ℕ) (w : Setting) (s : State) (a : Arguments) → AttemptWorks s (search_pages with_page_turned text w s a)
-seeks_turning text w s a = over_pages with_page_turned with_next_page turned_is turn_moves text w s a
+seeks_turning text w s a = over_pages with_page_turned with_next_page turned_is (λ s. refl) turn_moves text w s a
 
 pub seeks_reading : (text : List ℕ) (w : Setting) (s : State) (a : Arguments) → AttemptWorks s (search_pages with_page_read text w s a)
-seeks_reading text w s a = over_pages with_page_read with_page read_is page_moves text w s a
+seeks_reading text w s a = over_pages with_page_read with_page read_is (λ s. refl) page_moves text w s a

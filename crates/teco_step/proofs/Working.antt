@@ -1,5 +1,5 @@
 -- What a step does: it types and leaves the state, or its load is what it moves.
-use Rattle.std.proofs.Common.{◌≡◌, ◌∙◌, subst, refl, ◌⊎◌, inl, inr, ℕ, ◌+◌, ◌-◌, ◌≤◌, min, max, Bool, true, false, cond, List, [], ◌∷◌, length, drop, None, Result, Ok, Err, ℤ, pos, nat_le, arith}
+use Rattle.std.proofs.Common.{◌≡◌, ◌∙◌, ap, sym, subst, refl, ◌⊎◌, inl, inr, ℕ, ◌+◌, ◌-◌, ◌≤◌, min, max, Bool, true, false, cond, List, [], ◌∷◌, ◌++◌, length, drop, None, Result, Ok, Err, ℤ, pos, nat_le, arith}
 use Rattle.std.specs.Prelude.{◌==◌, ◌+ℤ◌}
 use Rattle.std.specs.Fmt.{signed_decimal}
 use Rattle.teco_core.specs.declared.arguments.Level.{Level}
@@ -16,7 +16,7 @@ use Rattle.teco_core.specs.Register.{content}
 use Rattle.teco_scan.specs.declared.command.Modifiers.{Modifiers}
 use Rattle.teco_scan.specs.declared.command.LevelCommand.{LevelCommand}
 use Rattle.teco_scan.specs.declared.command.LevelCommand.TheVariants as level_command
-use Rattle.teco_store.specs.Page.{page, page_load, with_next_page, with_more, with_page, with_range_written}
+use Rattle.teco_store.specs.Page.{page, page_load, past_page, is_input_over, with_next_page, with_more, with_page, with_range_written}
 use Rattle.teco_store.specs.State.{State, last_pushed, popped_into, pushed_from, spliced, with_register_text}
 use Rattle.teco_step.specs.Case.{mode_of, set_case}
 use Rattle.teco_step.specs.Decimal.{Numeral, decimal_at_level, insert_number, numeral_at, reads}
@@ -31,7 +31,7 @@ use Rattle.teco_step.proofs.Reaching.{between, place_within, reach_spans}
 
 -- from one state to another, with these bytes typed, by this load
 abbrev pub Works : State → State → List ℕ → ℕ → Type 0
-Works s t typed load = ((t ≡ s) × (load ≡ 0)) ⊎ ((typed ≡ []) × (s.pointer ≤ length s.text → Moves s t load))
+Works s t typed load = ((t ≡ s) × (load ≡ 0)) ⊎ ((typed ≡ []) × (t.profile ≡ s.profile) × (s.pointer ≤ length s.text → Moves s t load))
 
 abbrev pub MadeWorks : State → Made → Type 0
 MadeWorks s (Ok c) = Works s c.state c.typed c.load
@@ -84,8 +84,8 @@ pub read_is : (s t : State) → with_page_read s ≡ Ok t → with_page s ≡ t
 read_is s t e = read_by s t (length s.text == 0) e
 
 -- a state that was asked for, by its load
-pub within_limit : (s u t : State) (load : ℕ) → u ≡ t → (s.pointer ≤ length s.text → Moves s u load) → Works s t [] load
-within_limit s u t load is h = inr (refl, λ within. subst (λ (v : State). Moves s v load) is (h within))
+pub within_limit : (s u t : State) (load : ℕ) → u ≡ t → u.profile ≡ s.profile → (s.pointer ≤ length s.text → Moves s u load) → Works s t [] load
+within_limit s u t load is keeps h = inr (refl, ap (λ (v : State). v.profile) (sym is) ∙ keeps, λ within. subst (λ (v : State). Moves s v load) is (h within))
 
 -- values
 pub gives_works : (s : State) (a : Arguments) (v : ℤ) → MadeWorks s (gives s a v)
@@ -93,7 +93,7 @@ gives_works s a v = made_then s (give v a) _ (λ given e. inl (refl, refl))
 
 -- moves of the pointer
 pub moves_works : (s : State) (a : Arguments) (place : ℕ) → MadeWorks s (moves place s a)
-moves_works s a place = inr (refl, λ within. pointer_moves s place)
+moves_works s a place = inr (refl, refl, λ within. pointer_moves s place)
 
 -- bytes that are typed
 pub types_works : (s : State) (bytes : List ℕ) → MadeWorks s (types s bytes)
@@ -103,7 +103,7 @@ types_works s bytes = inl (refl, refl)
 puts_works : (at gone : ℕ) (bytes : List ℕ) (s : State) (a : Arguments) → (s.pointer ≤ length s.text → at + gone ≤ length s.text) → MadeWorks s (puts at gone bytes s a)
 puts_works at gone bytes s a lies =
     let u : State = spliced s at gone bytes None in
-    made_then s (with_text_in_limit u) _ (λ t e. within_limit s u t (gone + length bytes) (text_is u t e) (λ within. splice_moves s at gone bytes (lies within)))
+    made_then s (with_text_in_limit u) _ (λ t e. within_limit s u t (gone + length bytes) (text_is u t e) refl (λ within. splice_moves s at gone bytes (lies within)))
 
 pub inserts_works : (bytes : List ℕ) (s : State) (a : Arguments) → MadeWorks s (inserts bytes s a)
 inserts_works bytes s a = puts_works s.pointer 0 bytes s a (λ within. omega arith)
@@ -125,7 +125,7 @@ insert_tab_works text s a = made_then s (taken_from a) _ (λ t e. made_then s (u
 
 -- numbers in the buffer
 reads_works : (written : Numeral) (s : State) (a : Arguments) → MadeWorks s (reads written s a)
-reads_works written s a = made_then s (fitted written.value) _ (λ n e. made_then s (give n a) _ (λ given h. inr (refl, λ within. pointer_moves s (s.pointer + written.size))))
+reads_works written s a = made_then s (fitted written.value) _ (λ n e. made_then s (give n a) _ (λ given h. inr (refl, refl, λ within. pointer_moves s (s.pointer + written.size))))
 
 inserted_number_works : (s : State) (a : Arguments) → MadeWorks s (insert_number s a)
 inserted_number_works s a = made_then s (takes_one code.Arg a) _ (λ n e. inserts_works (signed_decimal n) s a)
@@ -136,10 +136,14 @@ decimal_works (level.Sign n) s a = reads_works (numeral_at (drop s.pointer s.tex
 decimal_works level.Empty s a = reads_works (numeral_at (drop s.pointer s.text)) s a
 decimal_works level.Waits s a = reads_works (numeral_at (drop s.pointer s.text)) s a
 
+more_profile : (s : State) (over : Bool) → (cond over s (record (past_page s) { text = s.text ++ page s })).profile ≡ s.profile
+more_profile s true = refl
+more_profile s false = refl
+
 append_page_works : (m : Modifiers) (s : State) (a : Arguments) → MadeWorks s (append_page m s a)
 append_page_works m s a =
     made_then s (takes_none a) _ (λ none e. made_then s (with_text_in_limit (with_more s)) _ (λ t h.
-    within_limit s (with_more s) t (length (page s)) (text_is (with_more s) t h) (λ within. more_moves s)))
+    within_limit s (with_more s) t (length (page s)) (text_is (with_more s) t h) (more_profile s (is_input_over s)) (λ within. more_moves s)))
 
 appends_works : (m : Modifiers) (l : Level) (s : State) (a : Arguments) → MadeWorks s (appends m l s a)
 appends_works m (level.Value n) s a = gives_works s (emptied a) _
@@ -154,12 +158,12 @@ level_works m level_command.Decimal s a = decimal_works (level_of a.expression) 
 -- pages
 pub next_page_works : (m : Modifiers) (s : State) (a : Arguments) → MadeWorks s (next_page m s a)
 next_page_works m s a =
-    made_then s (takes_none a) _ (λ none e. made_then s (with_page_read s) _ (λ t h. within_limit s (with_page s) t (page_load s) (read_is s t h) (λ within. page_moves s)))
+    made_then s (takes_none a) _ (λ none e. made_then s (with_page_read s) _ (λ t h. within_limit s (with_page s) t (page_load s) (read_is s t h) refl (λ within. page_moves s)))
 
 writes_works : (low high : ℕ) (form_feed : Bool) (s : State) (a : Arguments) → MadeWorks s (writes low high form_feed s a)
 writes_works low high form_feed s a =
     let u : State = with_range_written s low high form_feed in
-    made_then s (with_output_in_limit u) _ (λ t e. within_limit s u t 0 (output_is u t e) (λ within. writing_moves s low high form_feed))
+    made_then s (with_output_in_limit u) _ (λ t e. within_limit s u t 0 (output_is u t e) refl (λ within. writing_moves s low high form_feed))
 
 writes_taken_works : (t : Taken) (s : State) (a : Arguments) → MadeWorks s (writes_taken t s a)
 writes_taken_works taken.None s a = writes_works 0 (length s.text) true s a
@@ -171,11 +175,11 @@ write_page_works s a = made_then s (taken_from a) _ (λ t e. writes_taken_works 
 
 -- registers
 pub set_number_works : (q : ℕ) (s : State) (a : Arguments) → MadeWorks s (set_number q s a)
-set_number_works q s a = made_then s (takes_one code.Nau a) _ (λ n e. inr (refl, λ within. number_moves s q n))
+set_number_works q s a = made_then s (takes_one code.Nau a) _ (λ n e. inr (refl, refl, λ within. number_moves s q n))
 
 adds_works : (q : ℕ) (n : ℤ) (s : State) (a : Arguments) → MadeWorks s (adds q n s a)
 adds_works q n s a =
-    made_then s (fitted ((content s.registers q).number +ℤ n)) _ (λ sum e. made_then s (give sum a) _ (λ given h. inr (refl, λ within. number_moves s q sum)))
+    made_then s (fitted ((content s.registers q).number +ℤ n)) _ (λ sum e. made_then s (give sum a) _ (λ given h. inr (refl, refl, λ within. number_moves s q sum)))
 
 increments_works : (q : ℕ) (l : Level) (s : State) (a : Arguments) → MadeWorks s (increments q l s a)
 increments_works q (level.Value n) s a = adds_works q n s (emptied a)
@@ -189,7 +193,7 @@ increment_works q s a = increments_works q (level_of a.expression) s a
 sets_works : (q : ℕ) (text : List ℕ) (s : State) → MadeWorks s (sets_text q text s)
 sets_works q text s =
     made_if s (nat_le (length text) TEXT_LIMIT) (changes (with_register_text s q text) (length (content s.registers q).text + length text)) (Err code.Big)
-    (inr (refl, λ within. register_moves s q text)) tt
+    (inr (refl, refl, λ within. register_moves s q text)) tt
 
 pub set_text_works : (m : Modifiers) (q : ℕ) (text : List ℕ) (s : State) (a : Arguments) → MadeWorks s (set_text m q text s a)
 set_text_works m q text s a = made_then s (takes_none a) _ (λ none e. sets_works q _ s)
@@ -198,11 +202,11 @@ pub extract_works : (m : Modifiers) (q : ℕ) (s : State) (a : Arguments) → Ma
 extract_works m q s a = made_then s (takes_reach s a) _ (λ r e. sets_works q _ s)
 
 pub push_works : (q : ℕ) (s : State) (a : Arguments) → MadeWorks s (push q s a)
-push_works q s a = made_if s _ (Err code.Pdo) (edits (pushed_from s q) a (length (content s.registers q).text)) tt (inr (refl, λ within. push_moves s q))
+push_works q s a = made_if s _ (Err code.Pdo) (edits (pushed_from s q) a (length (content s.registers q).text)) tt (inr (refl, refl, λ within. push_moves s q))
 
 pub pop_works : (q : ℕ) (s : State) (a : Arguments) → MadeWorks s (pop q s a)
 pop_works q s a =
-    made_if s _ (Err code.Cpq) (edits (popped_into s q) a (length (content s.registers q).text + length (last_pushed s).text)) tt (inr (refl, λ within. pop_moves s q))
+    made_if s _ (Err code.Cpq) (edits (popped_into s q) a (length (content s.registers q).text + length (last_pushed s).text)) tt (inr (refl, refl, λ within. pop_moves s q))
 
 typed_works : (q : ℕ) (s : State) (a : Arguments) → MadeWorks s (type_text q s a)
 typed_works q s a = made_then s (takes_none a) _ (λ none e. inl (refl, refl))
@@ -215,4 +219,4 @@ get_works m q s a = made_if s _ (type_text q s a) (insert_text q s a) (typed_wor
 
 -- the case mode
 pub case_works : (s : State) (a : Arguments) → MadeWorks s (set_case s a)
-case_works s a = made_then s (takes_one code.Arg a) _ (λ n e. made_then s (mode_of n) _ (λ mode h. inr (refl, λ within. case_moves s mode)))
+case_works s a = made_then s (takes_one code.Arg a) _ (λ n e. made_then s (mode_of n) _ (λ mode h. inr (refl, refl, λ within. case_moves s mode)))

@@ -53,6 +53,10 @@ abbrev pub ChangesOrTypes : Type 0
 ChangesOrTypes = (i : Item) (w : Setting) (s : State) (a : Arguments) → ((effect i w s a).state ≡ s)
     ⊎ ((effect i w s a).typed ≡ [])
 
+-- No step changes the profile that texts are read in.
+abbrev pub ProfileStays : Type 0
+ProfileStays = (i : Item) (w : Setting) (s : State) (a : Arguments) → (effect i w s a).state.profile ≡ s.profile
+
 -- The load of a step is the bytes that it moves, where the pointer is in the text.
 abbrev pub LoadIsWhatMoves : Type 0
 LoadIsWhatMoves = (i : Item) (w : Setting) (s : State) (a : Arguments) → s.pointer ≤ length s.text

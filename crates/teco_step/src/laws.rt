@@ -1,5 +1,5 @@
 //! What the effect of a token always says.
-ghost use Rattle.teco_step.specs.Laws.{CallsByCalls, ChangesOrTypes, ErrorsChangeNothing, GoesFurtherIfItMay, JumpsToItsName, LeavesInside, LoadIsWhatMoves, OnlyExits, ValueGoesOn};
+ghost use Rattle.teco_step.specs.Laws.{CallsByCalls, ChangesOrTypes, ErrorsChangeNothing, GoesFurtherIfItMay, JumpsToItsName, LeavesInside, LoadIsWhatMoves, OnlyExits, ProfileStays, ValueGoesOn};
 
 use teco_search::{occurrences, search_texts};
 
@@ -14,6 +14,7 @@ pub fn effect_laws()
     ensures errors { ErrorsChangeNothing }
     ensures apart { ChangesOrTypes }
     ensures load { LoadIsWhatMoves }
+    ensures profile { ProfileStays }
 {
     occurrences();
     search_texts();

@@ -6,10 +6,13 @@ use Rattle.teco_core.specs.declared.case_mode.CaseMode.{CaseMode}
 use Rattle.teco_core.specs.declared.case_mode.CaseMode.TheVariants.{Exact}
 use Rattle.teco_core.specs.Number.{IsNumber}
 use Rattle.teco_core.specs.Register.{Content, blank, blank_registers, content, with_content, with_number, with_text}
+use Rattle.teco_core.specs.declared.profile.Profile.{Profile}
+use Rattle.teco_core.specs.declared.profile.Profile.TheVariants.{Named}
 use Rattle.teco_core.specs.declared.limits.TheConstants.{FILE_LIMIT, PUSHED_LIMIT, TEXT_LIMIT}
 
 -- the parts of the state, with an output of this kind
 pub record StateOver (O : Type 0) : Type 0 where
+  pub profile : Profile  -- that command strings are read in
   pub text : List ℕ  -- of the buffer
   pub pointer : ℕ  -- from 0 to the text's length
   pub registers : List Content  -- 36, A to Z and 0 to 9
@@ -42,6 +45,7 @@ pub record Full : Type 0 where
 -- the state that a body is, where these bytes of output are stored
 abbrev pub state_at : List ℕ → Body → State
 state_at stored b = record {
+  profile = b.profile;
   text = b.text;
   pointer = b.pointer;
   registers = b.registers;
@@ -81,9 +85,10 @@ abbrev pub IsEnd : Option ℕ → ℕ → Type 0
 IsEnd None n = FILE_LIMIT < n
 IsEnd (Some end) n = (end ≡ n) × (n ≤ FILE_LIMIT)
 
--- the beginning, with this output and this input, and pages of any number of lines
+-- the beginning, with this output and this input, pages of any number of lines, and the named profile
 abbrev pub beginning_over : {O : Type 0} → O → List ℕ → StateOver O
 beginning_over output input = record {
+  profile = Named;
   text = [];
   pointer = 0;
   registers = blank_registers;
@@ -106,6 +111,10 @@ beginning input = beginning_over [] input
 -- a state whose pages end after so many lines. No call changes this number.
 abbrev pub with_page_lines : {O : Type 0} → ℕ → StateOver O → StateOver O
 with_page_lines lines s = record s { page_lines = lines }
+
+-- a state whose command strings are read in this profile. No call changes it.
+abbrev pub with_profile : {O : Type 0} → Profile → StateOver O → StateOver O
+with_profile p s = record s { profile = p }
 
 -- the beginning, with pages of so many lines
 abbrev pub paged_beginning : ℕ → List ℕ → State

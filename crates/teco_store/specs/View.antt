@@ -7,6 +7,7 @@ use Rattle.teco_store.specs.declared.editor.Editor.TheInside.{Inside}
 
 abbrev pub body_in : Inside → Body
 body_in e = record {
+  profile = e.profile;
   text = text e.text;
   pointer = e.pointer;
   registers = e.registers;

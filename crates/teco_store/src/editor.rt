@@ -1,6 +1,6 @@
 //! The editor: one editing state.
 ghost use Rattle.std.specs.Prelude.{◌≡◌, ◌≤◌, vec_len, IfOk};
-ghost use Rattle.teco_store.specs.State.{new_full, new_paged_full, state_of};
+ghost use Rattle.teco_store.specs.State.{new_full, new_paged_full, state_of, with_body, with_profile};
 
 mod changing;
 mod putting;
@@ -12,7 +12,7 @@ use crate::output::Output;
 use crate::pages::{is_past, replace_text};
 use crate::slices::Slices;
 use std::marker::Model;
-use teco_core::{CaseMode, FILE_LIMIT, NoMemory, PushList, Reg, Registers, TEXT_LIMIT};
+use teco_core::{CaseMode, FILE_LIMIT, NoMemory, Profile, PushList, Reg, Registers, TEXT_LIMIT};
 use teco_gap::GapBuffer;
 
 /// The editing state: the buffer with its pointer, the registers and the push-down list, the input and the output, and what the last
@@ -22,6 +22,7 @@ use teco_gap::GapBuffer;
 /// bytes: what is stored beyond them was written and taken back, and the next write drops it. A page ends at a form feed, and after
 /// `page_lines` lines where that is not 0.
 pub struct Editor {
+    profile: Profile,
     text: GapBuffer,
     pointer: usize,
     registers: Registers,
@@ -42,6 +43,7 @@ pub struct Editor {
 impl Drop for Editor {
     fn drop(self) {
         let Editor {
+            profile: _,
             text: _,
             pointer: _,
             registers: _,
@@ -87,6 +89,7 @@ impl Editor {
     {
         let alloc = *input.allocator();
         Editor {
+            profile: Profile::Named,
             text: GapBuffer::new(),
             pointer: 0,
             registers: Registers::new(alloc),
@@ -103,6 +106,15 @@ impl Editor {
             case_mode: CaseMode::Exact,
         }
     }
+
+    /// The same editor, whose command strings are read in this profile. Takes no memory.
+    pub fn with_profile(self, profile: Profile) -> Editor
+        ensures { result ≡ with_body self (with_profile profile self.body) }
+    {
+        let mut editor = self;
+        editor.profile = profile;
+        editor
+    }
 }
 
 impl Desk for Editor {
@@ -113,6 +125,10 @@ impl Desk for Editor {
     ghost has_places = { λ _ _ _. Unit {0} };
 
     ghost eases = { λ _ _ h. h };
+
+    fn profile(&self) -> Profile {
+        self.profile
+    }
 
     fn halves(&self) -> (&[u8], &[u8]) {
         self.text.halves()

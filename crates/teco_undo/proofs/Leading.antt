@@ -16,6 +16,7 @@ since_zero (x ∷ xs) = since_high 0 x xs (omega arith)
 -- a state as a body, with so many bytes of output
 with_end : ℕ → State → Body
 with_end n s = record {
+  profile = s.profile;
   text = s.text;
   pointer = s.pointer;
   registers = s.registers;

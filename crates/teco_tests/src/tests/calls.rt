@@ -5,7 +5,7 @@ use std::alloc::Global;
 use std::test::*;
 use teco_check::{REGISTERS, fault_of};
 use teco_cli::{is_standard_input, line_of};
-use teco_core::{Args, CaseMode, Code, Op, Taken};
+use teco_core::{Args, CaseMode, Code, Op, Profile, Taken};
 use teco_exec::run;
 use teco_fs::{Disk, MemoryDisk, RefusedCall, has_bytes};
 use teco_gap::GapBuffer;
@@ -56,7 +56,7 @@ fn an_occurrence_is_found(alloc: Global) -> bool {
 
 /// teco_scan: a token ends where its text ends.
 fn a_token_is_read() -> bool {
-    match token_at(b"Iab\x1bT", 0) {
+    match token_at(Profile::Named, b"Iab\x1bT", 0) {
         Found::Token(token) => token.span.to == 4,
         _ => false,
     }
@@ -64,7 +64,7 @@ fn a_token_is_read() -> bool {
 
 /// teco_scan: a block without its end is a fault.
 fn a_fault_is_found() -> bool {
-    first_fault(b"3<D").is_some()
+    first_fault(Profile::Named, b"3<D").is_some()
 }
 
 /// teco_store: a text is put in, and the pointer goes after it.
@@ -91,7 +91,7 @@ fn a_token_is_done(alloc: Global) -> bool {
     let mut editor = Editor::new(Vec::new(alloc));
     let mut terminal = MemoryTerminal::new(alloc);
     let mut args = Args::new();
-    let Found::Token(token) = token_at(b"%A", 0) else {
+    let Found::Token(token) = token_at(Profile::Named, b"%A", 0) else {
         return false;
     };
     let TokenKind::Item(Item::Register(_, _)) = token.kind else {

@@ -10,5 +10,6 @@ mod line_ends;
 mod page_lines;
 mod page_turns;
 mod places;
+mod profiles;
 mod seeking;
 pub(crate) mod strings;

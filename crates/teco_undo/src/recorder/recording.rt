@@ -12,7 +12,7 @@ ghost use Rattle.teco_store.specs.declared.desk.Refused.TheVariants.{Big};
 use crate::held::Held;
 use crate::recorder::Recorder;
 use crate::recorder::texts::count_of;
-use teco_core::{CaseMode, PushList, Reg, Registers, TEXT_LIMIT};
+use teco_core::{CaseMode, Profile, PushList, Reg, Registers, TEXT_LIMIT};
 use teco_store::change::{PartValue, SmallChange};
 use teco_store::{Desk, Refused, Slices, is_long, is_past};
 
@@ -70,6 +70,10 @@ impl Desk for Recorder {
     ghost has_places = { λ r changes apart. (changes ≤ r.spare) × (apart ≤ r.apart) };
 
     ghost eases = { follows_eases };
+
+    fn profile(&self) -> Profile {
+        self.editor.profile()
+    }
 
     fn halves(&self) -> (&[u8], &[u8]) {
         self.editor.halves()

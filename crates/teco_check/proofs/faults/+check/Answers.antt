@@ -1,6 +1,7 @@
 use Rattle.std.proofs.Common.{rules, ◌≡◌, ◌<◌, ◌≤◌, ℕ, suc, true, false, Bool, [], ◌∷◌, length, drop, IfOk, IfErr, Some, is_ok, is_none, Ok, Result, refl, sym, ap, ◌∙◌, subst, arith}
 use Rattle.std.proofs.lemmas.Grind.{common_steps}
 use Rattle.std.proofs.lemmas.Result.{err_from_is_err_and}
+use Rattle.teco_core.specs.declared.profile.Profile.TheVariants.{Named}
 use Rattle.teco_scan.specs.declared.blocks.Kind.TheVariants.{Iter, Then, Else}
 use Rattle.teco_scan.specs.Scan.{scan, Instruction, ended, fault, found, mark, step}
 use Rattle.teco_scan.specs.declared.command.BlockMark.TheVariants.{Iterate}
@@ -30,7 +31,7 @@ pub check_conditional-returns-in_err-stop-clause-clean : goal.check_conditional-
 check_conditional-returns-in_err-stop-clause-clean t c test lists k are =
     let text = c.args.text.now in
     let p = err_from_is_err_and c.from_residual.result c.from_residual.ensures.1 in
-    cond_faulty (held c.args.look.code.now) (may_hold c.args.look.texts c.args.look.code.now) lists k c.args.depth test (list_at (Some Then) (suc c.args.depth) (drop c.args.at text)) (deeper (held c.args.look.code.now) (may_hold c.args.look.texts c.args.look.code.now) lists (Some Then) c.args.depth (drop c.args.at text) false (c.in_err-stop.ensures.clean lists are))
+    cond_faulty (held c.args.look.code.now) (may_hold c.args.look.texts c.args.look.code.now) lists k c.args.depth test (list_at Named (Some Then) (suc c.args.depth) (drop c.args.at text)) (deeper (held c.args.look.code.now) (may_hold c.args.look.texts c.args.look.code.now) lists (Some Then) c.args.depth (drop c.args.at text) false (c.in_err-stop.ensures.clean lists are))
     ∙ sym (ap (λ (r : Result ℕ Fault). rest_clean (held c.args.look.code.now) (may_hold c.args.look.texts c.args.look.code.now) lists text k c.args.depth r) p.1)
 
 pub check_conditional-returns-in_err-end-clause-clean : goal.check_conditional-returns-in_err-end-clause-clean
@@ -38,7 +39,7 @@ check_conditional-returns-in_err-end-clause-clean t c test lists k are =
     let text = c.args.text.now in
     let stop = c.in_ok-stop.stop in
     let p = err_from_is_err_and c.from_residual-in_err-end.result c.from_residual-in_err-end.ensures.1 in
-    other_faulty (held c.args.look.code.now) (may_hold c.args.look.texts c.args.look.code.now) lists k c.args.depth test (list_at (Some Then) (suc c.args.depth) (drop c.args.at text)) (drop stop.to text)
+    other_faulty (held c.args.look.code.now) (may_hold c.args.look.texts c.args.look.code.now) lists k c.args.depth test (list_at Named (Some Then) (suc c.args.depth) (drop c.args.at text)) (drop stop.to text)
     (closes_deeper (Some Then) c.args.depth (drop c.args.at text) _ (c.in_ok-stop.ensures.closes Then refl) ∙ ap (λ (b : Bool). closed b (drop stop.to text)) c.if-stop.true)
     (deeper (held c.args.look.code.now) (may_hold c.args.look.texts c.args.look.code.now) lists (Some Else) c.args.depth (drop stop.to text) false (c.in_err-end.ensures.clean lists are))
     ∙ sym (ap (λ (r : Result ℕ Fault). rest_clean (held c.args.look.code.now) (may_hold c.args.look.texts c.args.look.code.now) lists text k c.args.depth r) p.1)
@@ -49,7 +50,7 @@ check_conditional-returns-then-stop-clause-clean t c test lists k are =
     let d = c.args.depth in
     let stop = c.in_ok-stop.stop in
     let end = c.in_ok-end.end in
-    other_clean (held c.args.look.code.now) (may_hold c.args.look.texts c.args.look.code.now) lists k d test (list_at (Some Then) (suc d) (drop c.args.at text)) (drop stop.to text) end.divided (drop end.to text)
+    other_clean (held c.args.look.code.now) (may_hold c.args.look.texts c.args.look.code.now) lists k d test (list_at Named (Some Then) (suc d) (drop c.args.at text)) (drop stop.to text) end.divided (drop end.to text)
     (deeper (held c.args.look.code.now) (may_hold c.args.look.texts c.args.look.code.now) lists (Some Then) d (drop c.args.at text) true (c.in_ok-stop.ensures.clean lists are))
     (closes_deeper (Some Then) d (drop c.args.at text) (closed stop.divided (drop stop.to text)) (c.in_ok-stop.ensures.closes Then refl) ∙ ap (λ (b : Bool). closed b (drop stop.to text)) c.if-stop.true)
     (deeper (held c.args.look.code.now) (may_hold c.args.look.texts c.args.look.code.now) lists (Some Else) d (drop stop.to text) true (c.in_ok-end.ensures.clean lists are))
@@ -60,37 +61,37 @@ check_conditional-returns-clause-clean t c test lists k are =
     let text = c.args.text.now in
     let d = c.args.depth in
     let stop = c.in_ok-stop.stop in
-    cond_clean (held c.args.look.code.now) (may_hold c.args.look.texts c.args.look.code.now) lists k d test (list_at (Some Then) (suc d) (drop c.args.at text)) (drop stop.to text)
+    cond_clean (held c.args.look.code.now) (may_hold c.args.look.texts c.args.look.code.now) lists k d test (list_at Named (Some Then) (suc d) (drop c.args.at text)) (drop stop.to text)
     (deeper (held c.args.look.code.now) (may_hold c.args.look.texts c.args.look.code.now) lists (Some Then) d (drop c.args.at text) true (c.in_ok-stop.ensures.clean lists are))
     (closes_deeper (Some Then) d (drop c.args.at text) (closed stop.divided (drop stop.to text)) (c.in_ok-stop.ensures.closes Then refl) ∙ ap (λ (b : Bool). closed b (drop stop.to text)) c.if-stop.false)
 
 pub check_list-returns-in-End-clause-clean : goal.check_list-returns-in-End-clause-clean
 check_list-returns-in-End-clause-clean t c lists are =
     let text = c.args.text.now in
-    let all = (list_at c.args.kind c.args.depth (drop c.args.at text)).0 ∷ lists in
+    let all = (list_at Named c.args.kind c.args.depth (drop c.args.at text)).0 ∷ lists in
     let lt : c.args.depth < length c.args.around.now = omega (arith, c.told-around, c.requires.few) in
-    sym (c.loop-code.invariant.clean all (opens c.block_laws.ensures text c.args.around.now c.args.depth c.args.at c.args.kind lists lt are))
-    ∙ ap (λ (l : Listed). is_clean (held c.args.look.code.now) (may_hold c.args.look.texts c.args.look.code.now) all l.0) (found_at c.block_laws.ensures c.args.kind c.args.depth (drop c.loop-code.next text) ended c.in-End.ensures.read)
+    sym (c.loop-code.invariant.clean all (opens (c.block_laws.ensures Named) text c.args.around.now c.args.depth c.args.at c.args.kind lists lt are))
+    ∙ ap (λ (l : Listed). is_clean (held c.args.look.code.now) (may_hold c.args.look.texts c.args.look.code.now) all l.0) (found_at (c.block_laws.ensures Named) c.args.kind c.args.depth (drop c.loop-code.next text) ended c.in-End.ensures.read)
     ∙ c.end_of_text.ensures.clean c.args.depth (held c.args.look.code.now) (may_hold c.args.look.texts c.args.look.code.now) all
 
 pub check_list-returns-in-Fault-clause-clean : goal.check_list-returns-in-Fault-clause-clean
 check_list-returns-in-Fault-clause-clean t c lists are =
     let text = c.args.text.now in
-    let all = (list_at c.args.kind c.args.depth (drop c.args.at text)).0 ∷ lists in
+    let all = (list_at Named c.args.kind c.args.depth (drop c.args.at text)).0 ∷ lists in
     let lt : c.args.depth < length c.args.around.now = omega (arith, c.told-around, c.requires.few) in
-    sym (c.loop-code.invariant.clean all (opens c.block_laws.ensures text c.args.around.now c.args.depth c.args.at c.args.kind lists lt are))
-    ∙ ap (λ (l : Listed). is_clean (held c.args.look.code.now) (may_hold c.args.look.texts c.args.look.code.now) all l.0) (found_at c.block_laws.ensures c.args.kind c.args.depth (drop c.loop-code.next text) (fault c.in-Fault.code) c.in-Fault.ensures.read)
+    sym (c.loop-code.invariant.clean all (opens (c.block_laws.ensures Named) text c.args.around.now c.args.depth c.args.at c.args.kind lists lt are))
+    ∙ ap (λ (l : Listed). is_clean (held c.args.look.code.now) (may_hold c.args.look.texts c.args.look.code.now) all l.0) (found_at (c.block_laws.ensures Named) c.args.kind c.args.depth (drop c.loop-code.next text) (fault c.in-Fault.code) c.in-Fault.ensures.read)
     ∙ wrong_unclean (held c.args.look.code.now) (may_hold c.args.look.texts c.args.look.code.now) all c.in-Fault.code
 
 pub check_list-returns-in-Some-clause-clean : goal.check_list-returns-in-Some-clause-clean
 check_list-returns-in-Some-clause-clean t c lists are =
     let text = c.args.text.now in
     let k = c.in-Token.token in
-    let all = (list_at c.args.kind c.args.depth (drop c.args.at text)).0 ∷ lists in
+    let all = (list_at Named c.args.kind c.args.depth (drop c.args.at text)).0 ∷ lists in
     let lt : c.args.depth < length c.args.around.now = omega (arith, c.told-around, c.requires.few) in
-    sym (c.loop-code.invariant.clean all (opens c.block_laws.ensures text c.args.around.now c.args.depth c.args.at c.args.kind lists lt are))
-    ∙ ap (λ (l : Listed). is_clean (held c.args.look.code.now) (may_hold c.args.look.texts c.args.look.code.now) all l.0) (found_at c.block_laws.ensures c.args.kind c.args.depth (drop c.loop-code.next text) (found (meaning_in text k) (drop k.span.to text)) c.in-Token.ensures.read)
-    ∙ ap (λ (i : Instruction). is_clean (held c.args.look.code.now) (may_hold c.args.look.texts c.args.look.code.now) all (at_instruction list_at i k.modifiers (drop k.span.to text) c.args.kind c.args.depth).0) (closing_is (instruction_in text k.kind) c.in-Some.mark (c.in-Some.ensures text))
+    sym (c.loop-code.invariant.clean all (opens (c.block_laws.ensures Named) text c.args.around.now c.args.depth c.args.at c.args.kind lists lt are))
+    ∙ ap (λ (l : Listed). is_clean (held c.args.look.code.now) (may_hold c.args.look.texts c.args.look.code.now) all l.0) (found_at (c.block_laws.ensures Named) c.args.kind c.args.depth (drop c.loop-code.next text) (found (meaning_in text k) (drop k.span.to text)) c.in-Token.ensures.read)
+    ∙ ap (λ (i : Instruction). is_clean (held c.args.look.code.now) (may_hold c.args.look.texts c.args.look.code.now) all (at_instruction (list_at Named) i k.modifiers (drop k.span.to text) c.args.kind c.args.depth).0) (closing_is (instruction_in text k.kind) c.in-Some.mark (c.in-Some.ensures text))
     ∙ c.end_of_list.ensures.clean text c.args.depth (held c.args.look.code.now) (may_hold c.args.look.texts c.args.look.code.now) all
 
 pub check_list-returns-in-Some-clause-closes : goal.check_list-returns-in-Some-clause-closes
@@ -98,8 +99,8 @@ check_list-returns-in-Some-clause-closes t c b is =
     let text = c.args.text.now in
     let k = c.in-Token.token in
     subst (λ (x : Close). IfOk c.end_of_list.result (λ stop. x ≡ close_of text (Ok stop)))
-    (sym (ap (λ (i : Instruction). (at_instruction list_at i k.modifiers (drop k.span.to text) c.args.kind c.args.depth).1) (closing_is (instruction_in text k.kind) c.in-Some.mark (c.in-Some.ensures text)))
-    ∙ sym (ap (λ (l : Listed). l.1) (found_at c.block_laws.ensures c.args.kind c.args.depth (drop c.loop-code.next text) (found (meaning_in text k) (drop k.span.to text)) c.in-Token.ensures.read))
+    (sym (ap (λ (i : Instruction). (at_instruction (list_at Named) i k.modifiers (drop k.span.to text) c.args.kind c.args.depth).1) (closing_is (instruction_in text k.kind) c.in-Some.mark (c.in-Some.ensures text)))
+    ∙ sym (ap (λ (l : Listed). l.1) (found_at (c.block_laws.ensures Named) c.args.kind c.args.depth (drop c.loop-code.next text) (found (meaning_in text k) (drop k.span.to text)) c.in-Token.ensures.read))
     ∙ c.loop-code.invariant.closes)
     (c.end_of_list.ensures.closes text c.args.depth)
 
@@ -108,11 +109,11 @@ check_list-returns-in_err-next-in-None-clause-clean t c lists are =
     let text = c.args.text.now in
     let k = c.in-Token.token in
     let p = err_from_is_err_and c.from_residual.result c.from_residual.ensures.1 in
-    let all = (list_at c.args.kind c.args.depth (drop c.args.at text)).0 ∷ lists in
+    let all = (list_at Named c.args.kind c.args.depth (drop c.args.at text)).0 ∷ lists in
     let lt : c.args.depth < length c.args.around.now = omega (arith, c.told-around, c.requires.few) in
-    let deep = opens c.block_laws.ensures text c.args.around.now c.args.depth c.args.at c.args.kind lists lt are in
+    let deep = opens (c.block_laws.ensures Named) text c.args.around.now c.args.depth c.args.at c.args.kind lists lt are in
     sym (c.loop-code.invariant.clean all deep)
-    ∙ ap (λ (l : Listed). is_clean (held c.args.look.code.now) (may_hold c.args.look.texts c.args.look.code.now) all l.0) (found_at c.block_laws.ensures c.args.kind c.args.depth (drop c.loop-code.next text) (found (meaning_in text k) (drop k.span.to text)) c.in-Token.ensures.read)
+    ∙ ap (λ (l : Listed). is_clean (held c.args.look.code.now) (may_hold c.args.look.texts c.args.look.code.now) all l.0) (found_at (c.block_laws.ensures Named) c.args.kind c.args.depth (drop c.loop-code.next text) (found (meaning_in text k) (drop k.span.to text)) c.in-Token.ensures.read)
     ∙ c.in_err-next-in-None.ensures.clean all c.args.kind deep
     ∙ sym (ap (λ r. is_ok r) p.1)
 
@@ -123,7 +124,7 @@ check_node-returns-then-depth-eq-BLOCK_LIMIT-clause-clean t c lists k are =
     let d = c.args.depth in
     let bs = drop c.args.token.span.to text in
     let it : instruction_in text c.args.token.kind ≡ mark Iterate = is_iterate text c.args.token.kind c.in-Mark.field-0 c.in-Mark.is c.requires.node in
-    ap (λ (i : Instruction). is_clean (held c.args.look.code.now) (may_hold c.args.look.texts c.args.look.code.now) lists (at_instruction list_at i m bs k d).0) it ∙ iterate_deep (held c.args.look.code.now) (may_hold c.args.look.texts c.args.look.code.now) lists k d m bs c.if-depth-eq-BLOCK_LIMIT.true
+    ap (λ (i : Instruction). is_clean (held c.args.look.code.now) (may_hold c.args.look.texts c.args.look.code.now) lists (at_instruction (list_at Named) i m bs k d).0) it ∙ iterate_deep (held c.args.look.code.now) (may_hold c.args.look.texts c.args.look.code.now) lists k d m bs c.if-depth-eq-BLOCK_LIMIT.true
 
 pub check_node-returns-in_err-stop-in-Mark-clause-clean : goal.check_node-returns-in_err-stop-in-Mark-clause-clean
 check_node-returns-in_err-stop-in-Mark-clause-clean t c lists k are =
@@ -133,9 +134,9 @@ check_node-returns-in_err-stop-in-Mark-clause-clean t c lists k are =
     let bs = drop c.args.token.span.to text in
     let it : instruction_in text c.args.token.kind ≡ mark Iterate = is_iterate text c.args.token.kind c.in-Mark.field-0 c.in-Mark.is c.requires.node in
     let p = err_from_is_err_and c.from_residual.result c.from_residual.ensures.1 in
-    ap (λ (i : Instruction). is_clean (held c.args.look.code.now) (may_hold c.args.look.texts c.args.look.code.now) lists (at_instruction list_at i m bs k d).0) it
+    ap (λ (i : Instruction). is_clean (held c.args.look.code.now) (may_hold c.args.look.texts c.args.look.code.now) lists (at_instruction (list_at Named) i m bs k d).0) it
     ∙ ap (λ (l : Listed). is_clean (held c.args.look.code.now) (may_hold c.args.look.texts c.args.look.code.now) lists l.0) (iterate_at m bs k d c.if-depth-eq-BLOCK_LIMIT.false)
-    ∙ iter_faulty (held c.args.look.code.now) (may_hold c.args.look.texts c.args.look.code.now) lists k d (list_at (Some Iter) (suc d) bs) (deeper (held c.args.look.code.now) (may_hold c.args.look.texts c.args.look.code.now) lists (Some Iter) d bs false (c.in_err-stop-in-Mark.ensures.clean lists are))
+    ∙ iter_faulty (held c.args.look.code.now) (may_hold c.args.look.texts c.args.look.code.now) lists k d (list_at Named (Some Iter) (suc d) bs) (deeper (held c.args.look.code.now) (may_hold c.args.look.texts c.args.look.code.now) lists (Some Iter) d bs false (c.in_err-stop-in-Mark.ensures.clean lists are))
     ∙ sym (ap (λ (r : Result ℕ Fault). rest_clean (held c.args.look.code.now) (may_hold c.args.look.texts c.args.look.code.now) lists text k d r) p.1)
 
 pub check_node-returns-then-depth-eq-BLOCK_LIMIT-2-clause-clean : goal.check_node-returns-then-depth-eq-BLOCK_LIMIT-2-clause-clean
@@ -144,7 +145,7 @@ check_node-returns-then-depth-eq-BLOCK_LIMIT-2-clause-clean t c lists k are =
     let text = c.args.text.now in
     let d = c.args.depth in
     let bs = drop c.args.token.span.to text in
-    ap (λ (x : TokenKind). is_clean (held c.args.look.code.now) (may_hold c.args.look.texts c.args.look.code.now) lists (at_instruction list_at (instruction_in text x) m bs k d).0) c.in-Test.is ∙ decide_deep (held c.args.look.code.now) (may_hold c.args.look.texts c.args.look.code.now) lists k d m bs c.in-Test.field-0 c.if-depth-eq-BLOCK_LIMIT-2.true
+    ap (λ (x : TokenKind). is_clean (held c.args.look.code.now) (may_hold c.args.look.texts c.args.look.code.now) lists (at_instruction (list_at Named) (instruction_in text x) m bs k d).0) c.in-Test.is ∙ decide_deep (held c.args.look.code.now) (may_hold c.args.look.texts c.args.look.code.now) lists k d m bs c.in-Test.field-0 c.if-depth-eq-BLOCK_LIMIT-2.true
 
 pub check_node-returns-in_ok-stop-in-Mark-clause-clean : goal.check_node-returns-in_ok-stop-in-Mark-clause-clean
 check_node-returns-in_ok-stop-in-Mark-clause-clean t c lists k are =
@@ -154,9 +155,9 @@ check_node-returns-in_ok-stop-in-Mark-clause-clean t c lists k are =
     let bs = drop c.args.token.span.to text in
     let it : instruction_in text c.args.token.kind ≡ mark Iterate = is_iterate text c.args.token.kind c.in-Mark.field-0 c.in-Mark.is c.requires.node in
     let stop = c.in_ok-stop-in-Mark.stop in
-    ap (λ (i : Instruction). is_clean (held c.args.look.code.now) (may_hold c.args.look.texts c.args.look.code.now) lists (at_instruction list_at i m bs k d).0) it
+    ap (λ (i : Instruction). is_clean (held c.args.look.code.now) (may_hold c.args.look.texts c.args.look.code.now) lists (at_instruction (list_at Named) i m bs k d).0) it
     ∙ ap (λ (l : Listed). is_clean (held c.args.look.code.now) (may_hold c.args.look.texts c.args.look.code.now) lists l.0) (iterate_at m bs k d c.if-depth-eq-BLOCK_LIMIT.false)
-    ∙ iter_clean (held c.args.look.code.now) (may_hold c.args.look.texts c.args.look.code.now) lists k d (list_at (Some Iter) (suc d) bs) stop.divided (drop stop.to text) (deeper (held c.args.look.code.now) (may_hold c.args.look.texts c.args.look.code.now) lists (Some Iter) d bs true (c.in_ok-stop-in-Mark.ensures.clean lists are))
+    ∙ iter_clean (held c.args.look.code.now) (may_hold c.args.look.texts c.args.look.code.now) lists k d (list_at Named (Some Iter) (suc d) bs) stop.divided (drop stop.to text) (deeper (held c.args.look.code.now) (may_hold c.args.look.texts c.args.look.code.now) lists (Some Iter) d bs true (c.in_ok-stop-in-Mark.ensures.clean lists are))
     (closes_deeper (Some Iter) d bs (closed stop.divided (drop stop.to text)) (c.in_ok-stop-in-Mark.ensures.closes Iter refl))
 
 pub check_node-returns-else-depth-eq-BLOCK_LIMIT-2-clause-closes : goal.check_node-returns-else-depth-eq-BLOCK_LIMIT-2-clause-closes
@@ -164,8 +165,8 @@ check_node-returns-else-depth-eq-BLOCK_LIMIT-2-clause-closes t c m k =
     let text = c.args.text.now in
     let d = c.args.depth in
     let bs = drop c.args.token.span.to text in
-    subst (λ (x : Close). IfOk c.check_conditional.result (λ to. x ≡ (list_at k d (drop to text)).1))
-    (sym (ap (λ (x : TokenKind). (at_instruction list_at (instruction_in text x) m bs k d).1) c.in-Test.is ∙ ap (λ (l : Listed). l.1) (decide_at c.in-Test.field-0 m bs k d c.if-depth-eq-BLOCK_LIMIT-2.false)))
+    subst (λ (x : Close). IfOk c.check_conditional.result (λ to. x ≡ (list_at Named k d (drop to text)).1))
+    (sym (ap (λ (x : TokenKind). (at_instruction (list_at Named) (instruction_in text x) m bs k d).1) c.in-Test.is ∙ ap (λ (l : Listed). l.1) (decide_at c.in-Test.field-0 m bs k d c.if-depth-eq-BLOCK_LIMIT-2.false)))
     (c.check_conditional.ensures.closes c.in-Test.field-0 k)
 
 pub check_node-returns-in-Item-clause-clean : goal.check_node-returns-in-Item-clause-clean
@@ -174,7 +175,7 @@ check_node-returns-in-Item-clause-clean t c lists k are =
     let text = c.args.text.now in
     let d = c.args.depth in
     let bs = drop c.args.token.span.to text in
-    ap (λ (x : TokenKind). is_clean (held c.args.look.code.now) (may_hold c.args.look.texts c.args.look.code.now) lists (at_instruction list_at (instruction_in text x) m bs k d).0) c.in-Item.is
+    ap (λ (x : TokenKind). is_clean (held c.args.look.code.now) (may_hold c.args.look.texts c.args.look.code.now) lists (at_instruction (list_at Named) (instruction_in text x) m bs k d).0) c.in-Item.is
     ∙ item_rest (held c.args.look.code.now) (may_hold c.args.look.texts c.args.look.code.now) lists k d m text c.args.token.span.to (item_in text c.in-Item.item) c.check_item.result c.check_item.ensures.place (ap (λ (x : SpannedItem). is_fine (held c.args.look.code.now) (may_hold c.args.look.texts c.args.look.code.now) lists m (item_in text x)) (sym c.in-Item.item-is) ∙ c.check_item.ensures.fine lists are)
 
 pub check_node-returns-in-Item-clause-first : goal.check_node-returns-in-Item-clause-first
@@ -194,7 +195,7 @@ check_node-returns-in-Tag-clause-clean t c lists k are =
     let text = c.args.text.now in
     let d = c.args.depth in
     let bs = drop c.args.token.span.to text in
-    ap (λ (x : TokenKind). is_clean (held c.args.look.code.now) (may_hold c.args.look.texts c.args.look.code.now) lists (at_instruction list_at (instruction_in text x) m bs k d).0) c.in-Tag.is ∙ tag_clean (held c.args.look.code.now) (may_hold c.args.look.texts c.args.look.code.now) lists k d m bs (bytes_in text c.in-Tag.field-0)
+    ap (λ (x : TokenKind). is_clean (held c.args.look.code.now) (may_hold c.args.look.texts c.args.look.code.now) lists (at_instruction (list_at Named) (instruction_in text x) m bs k d).0) c.in-Tag.is ∙ tag_clean (held c.args.look.code.now) (may_hold c.args.look.texts c.args.look.code.now) lists k d m bs (bytes_in text c.in-Tag.field-0)
 
 pub check_node-returns-in-Escape-clause-clean : goal.check_node-returns-in-Escape-clause-clean
 check_node-returns-in-Escape-clause-clean t c lists k are =
@@ -202,7 +203,7 @@ check_node-returns-in-Escape-clause-clean t c lists k are =
     let text = c.args.text.now in
     let d = c.args.depth in
     let bs = drop c.args.token.span.to text in
-    ap (λ (x : TokenKind). is_clean (held c.args.look.code.now) (may_hold c.args.look.texts c.args.look.code.now) lists (at_instruction list_at (instruction_in text x) m bs k d).0) c.in-Escape.is ∙ escape_clean (held c.args.look.code.now) (may_hold c.args.look.texts c.args.look.code.now) lists k d m bs
+    ap (λ (x : TokenKind). is_clean (held c.args.look.code.now) (may_hold c.args.look.texts c.args.look.code.now) lists (at_instruction (list_at Named) (instruction_in text x) m bs k d).0) c.in-Escape.is ∙ escape_clean (held c.args.look.code.now) (may_hold c.args.look.texts c.args.look.code.now) lists k d m bs
 
 pub check_list-returns-in-Some-clause-place : goal.check_list-returns-in-Some-clause-place
 check_list-returns-in-Some-clause-place t c =
@@ -225,7 +226,7 @@ check_conditional-returns-in_err-stop-clause-breaks t c test code k =
     let d = c.args.depth in
     let p = err_from_is_err_and c.from_residual.result c.from_residual.ensures.1 in
     rw (p.1, p.2)
-    (λ is. cond_breaks k d code test (list_at (Some Then) (suc d) (drop c.args.at text)) (closes_deeper (Some Then) d (drop c.args.at text) (broken code) (c.in_err-stop.ensures.breaks code is)))
+    (λ is. cond_breaks k d code test (list_at Named (Some Then) (suc d) (drop c.args.at text)) (closes_deeper (Some Then) d (drop c.args.at text) (broken code) (c.in_err-stop.ensures.breaks code is)))
 
 pub check_conditional-returns-in_err-end-clause-breaks : goal.check_conditional-returns-in_err-end-clause-breaks
 check_conditional-returns-in_err-end-clause-breaks t c test code k =
@@ -234,17 +235,24 @@ check_conditional-returns-in_err-end-clause-breaks t c test code k =
     let stop = c.in_ok-stop.stop in
     let p = err_from_is_err_and c.from_residual-in_err-end.result c.from_residual-in_err-end.ensures.1 in
     rw (p.1, p.2)
-    (λ is. other_breaks k d code test (list_at (Some Then) (suc d) (drop c.args.at text)) (drop stop.to text)
+    (λ is. other_breaks k d code test (list_at Named (Some Then) (suc d) (drop c.args.at text)) (drop stop.to text)
     (closes_deeper (Some Then) d (drop c.args.at text) (closed stop.divided (drop stop.to text)) (c.in_ok-stop.ensures.closes Then refl) ∙ ap (λ (b : Bool). closed b (drop stop.to text)) c.if-stop.true)
     (closes_deeper (Some Else) d (drop stop.to text) (broken code) (c.in_err-end.ensures.breaks code is)))
+
+pub check_list-returns-in-Fault-clause-breaks : goal.check_list-returns-in-Fault-clause-breaks
+check_list-returns-in-Fault-clause-breaks t c code is =
+    let same : c.in-Fault.code ≡ code = cc in
+    sym c.loop-code.invariant.closes
+    ∙ ap (λ (l : Listed). l.1) (found_at (c.block_laws.ensures Named) c.args.kind c.args.depth (drop c.loop-code.next c.args.text.now) (fault c.in-Fault.code) c.in-Fault.ensures.read)
+    ∙ ap broken same
 
 pub check_list-returns-in-Some-clause-breaks : goal.check_list-returns-in-Some-clause-breaks
 check_list-returns-in-Some-clause-breaks t c code =
     let text = c.args.text.now in
     let k = c.in-Token.token in
     subst (λ (x : Close). IfErr c.end_of_list.result (λ fault. code_of fault.wrong ≡ Some code → x ≡ broken code))
-    (sym (ap (λ (i : Instruction). (at_instruction list_at i k.modifiers (drop k.span.to text) c.args.kind c.args.depth).1) (closing_is (instruction_in text k.kind) c.in-Some.mark (c.in-Some.ensures text)))
-    ∙ sym (ap (λ (l : Listed). l.1) (found_at c.block_laws.ensures c.args.kind c.args.depth (drop c.loop-code.next text) (found (meaning_in text k) (drop k.span.to text)) c.in-Token.ensures.read))
+    (sym (ap (λ (i : Instruction). (at_instruction (list_at Named) i k.modifiers (drop k.span.to text) c.args.kind c.args.depth).1) (closing_is (instruction_in text k.kind) c.in-Some.mark (c.in-Some.ensures text)))
+    ∙ sym (ap (λ (l : Listed). l.1) (found_at (c.block_laws.ensures Named) c.args.kind c.args.depth (drop c.loop-code.next text) (found (meaning_in text k) (drop k.span.to text)) c.in-Token.ensures.read))
     ∙ c.loop-code.invariant.closes)
     (c.end_of_list.ensures.breaks text c.args.depth code)
 
@@ -255,7 +263,7 @@ check_list-returns-in_err-next-in-None-clause-breaks t c code =
     let p = err_from_is_err_and c.from_residual.result c.from_residual.ensures.1 in
     rw (p.1, p.2)
     (λ is. sym c.loop-code.invariant.closes
-    ∙ ap (λ (l : Listed). l.1) (found_at c.block_laws.ensures c.args.kind c.args.depth (drop c.loop-code.next text) (found (meaning_in text k) (drop k.span.to text)) c.in-Token.ensures.read)
+    ∙ ap (λ (l : Listed). l.1) (found_at (c.block_laws.ensures Named) c.args.kind c.args.depth (drop c.loop-code.next text) (found (meaning_in text k) (drop k.span.to text)) c.in-Token.ensures.read)
     ∙ c.in_err-next-in-None.ensures.breaks k.modifiers code c.args.kind is)
 
 pub check_node-returns-in_err-stop-in-Mark-clause-breaks : goal.check_node-returns-in_err-stop-in-Mark-clause-breaks
@@ -266,9 +274,9 @@ check_node-returns-in_err-stop-in-Mark-clause-breaks t c m code k =
     let it : instruction_in text c.args.token.kind ≡ mark Iterate = is_iterate text c.args.token.kind c.in-Mark.field-0 c.in-Mark.is c.requires.node in
     let p = err_from_is_err_and c.from_residual.result c.from_residual.ensures.1 in
     rw (p.1, p.2)
-    (λ is. ap (λ (i : Instruction). (at_instruction list_at i m bs k d).1) it
+    (λ is. ap (λ (i : Instruction). (at_instruction (list_at Named) i m bs k d).1) it
     ∙ ap (λ (l : Listed). l.1) (iterate_at m bs k d c.if-depth-eq-BLOCK_LIMIT.false)
-    ∙ iter_breaks k d code (list_at (Some Iter) (suc d) bs) (closes_deeper (Some Iter) d bs (broken code) (c.in_err-stop-in-Mark.ensures.breaks code is)))
+    ∙ iter_breaks k d code (list_at Named (Some Iter) (suc d) bs) (closes_deeper (Some Iter) d bs (broken code) (c.in_err-stop-in-Mark.ensures.breaks code is)))
 
 pub check_node-returns-else-depth-eq-BLOCK_LIMIT-2-clause-breaks : goal.check_node-returns-else-depth-eq-BLOCK_LIMIT-2-clause-breaks
 check_node-returns-else-depth-eq-BLOCK_LIMIT-2-clause-breaks t c m code k =
@@ -276,7 +284,7 @@ check_node-returns-else-depth-eq-BLOCK_LIMIT-2-clause-breaks t c m code k =
     let d = c.args.depth in
     let bs = drop c.args.token.span.to text in
     subst (λ (x : Close). IfErr c.check_conditional.result (λ fault. code_of fault.wrong ≡ Some code → x ≡ broken code))
-    (sym (ap (λ (x : TokenKind). (at_instruction list_at (instruction_in text x) m bs k d).1) c.in-Test.is ∙ ap (λ (l : Listed). l.1) (decide_at c.in-Test.field-0 m bs k d c.if-depth-eq-BLOCK_LIMIT-2.false)))
+    (sym (ap (λ (x : TokenKind). (at_instruction (list_at Named) (instruction_in text x) m bs k d).1) c.in-Test.is ∙ ap (λ (l : Listed). l.1) (decide_at c.in-Test.field-0 m bs k d c.if-depth-eq-BLOCK_LIMIT-2.false)))
     (c.check_conditional.ensures.breaks c.in-Test.field-0 code k)
 
 pub check_list-returns-in-End-clause-first : goal.check_list-returns-in-End-clause-first
@@ -333,14 +341,14 @@ pub check_list-check_node-requires : goal.check_list-check_node-requires
 check_list-check_node-requires t c =
     let text = c.args.text.now in
     let k = c.in-Token.token in
-    let token : scan (drop k.span.from text) ≡ found (meaning_in text k) (drop k.span.to text)
+    let token : scan Named (drop k.span.from text) ≡ found (meaning_in text k) (drop k.span.to text)
     = scan_same (drop c.loop-code.next text) (drop k.span.from text) c.in-Token.ensures.place.begins ∙ sym c.in-Token.ensures.read in (
       grind (arith, common_steps),
       (
         c.in-Token.ensures.place.inside,
         (
           token_long c.spelling.ensures.spelled text c.loop-code.next k c.in-Token.ensures.place token,
-          (c.in-Token.ensures.place.spans, (c.requires.few, (search rules, (token, (sym (c.in-None.ensures text), c.requires.tags))))),
+          (c.in-Token.ensures.place.spans, (c.requires.few, (search rules, (token, (sym (c.in-None.ensures text), (c.requires.tags, c.requires.named)))))),
         ),
       ),
     )
@@ -350,7 +358,11 @@ check_list-loop-code-preserved t c = record {
   past = grind (arith, common_steps);
   inside = grind (arith, common_steps);
   starts = search rules;
-  clean = search rules;
+  clean = λ lists are.
+      sym (c.in_ok-next-in-None.ensures.clean lists c.args.kind are)
+      ∙ sym (ap (λ (l : Listed). is_clean (held c.args.look.code.now) (may_hold c.args.look.texts c.args.look.code.now) lists l.0)
+      (found_at (c.block_laws.ensures Named) c.args.kind c.args.depth (drop c.loop-code.next c.args.text.now) (found (meaning_in c.args.text.now c.in-Token.token) (drop c.in-Token.token.span.to c.args.text.now)) c.in-Token.ensures.read))
+      ∙ c.loop-code.invariant.clean lists are;
   first = λ os long there.
       let text = c.args.text.now in
       let k = c.in-Token.token in
@@ -362,7 +374,10 @@ check_list-loop-code-preserved t c = record {
       ∙ sym (scanned_at (rule c.args.look.texts c.args.look.code.now) text bs me os (found (meaning_in text k) (drop k.span.to text)) k.span.from c.in-Token.ensures.read
       (place_is text (after_fillers bs) k.span.from in_text c.in-Token.ensures.place.begins))
       ∙ c.loop-code.invariant.first os long there;
-  closes = search rules;
+  closes =
+      sym (c.in_ok-next-in-None.ensures.closes c.in-Token.token.modifiers c.args.kind)
+      ∙ sym (ap (λ (l : Listed). l.1) (found_at (c.block_laws.ensures Named) c.args.kind c.args.depth (drop c.loop-code.next c.args.text.now) (found (meaning_in c.args.text.now c.in-Token.token) (drop c.in-Token.token.span.to c.args.text.now)) c.in-Token.ensures.read))
+      ∙ c.loop-code.invariant.closes;
 }
 
 pub check_node-returns-in_err-stop-in-Mark-clause-first : goal.check_node-returns-in_err-stop-in-Mark-clause-first
@@ -508,7 +523,11 @@ pub check_list-returns-in-End-clause-closes : goal.check_list-returns-in-End-cla
 check_list-returns-in-End-clause-closes t c = grind (arith, common_steps)
 
 pub check_list-returns-in-End-clause-breaks : goal.check_list-returns-in-End-clause-breaks
-check_list-returns-in-End-clause-breaks t c = grind (arith, common_steps)
+check_list-returns-in-End-clause-breaks t c code =
+    subst (λ (x : Close). IfErr c.end_of_text.result (λ fault. code_of fault.wrong ≡ Some code → x ≡ broken code))
+    (sym (ap (λ (l : Listed). l.1) (found_at (c.block_laws.ensures Named) c.args.kind c.args.depth (drop c.loop-code.next c.args.text.now) ended c.in-End.ensures.read))
+    ∙ c.loop-code.invariant.closes)
+    (c.end_of_text.ensures.breaks c.args.depth code)
 
 pub check_node-returns-else-depth-eq-BLOCK_LIMIT-2-clause-first : goal.check_node-returns-else-depth-eq-BLOCK_LIMIT-2-clause-first
 check_node-returns-else-depth-eq-BLOCK_LIMIT-2-clause-first t c = grind (arith, common_steps)

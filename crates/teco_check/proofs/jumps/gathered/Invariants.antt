@@ -1,6 +1,7 @@
 use Rattle.std.proofs.Common.{◌≡◌, ◌≤◌, ◌+◌, ◌-◌, length}
 use Rattle.teco_core.specs.declared.limits.TheConstants.{BLOCK_LIMIT}
 use Rattle.teco_check.specs.Checked.{AreInside}
+use Rattle.teco_core.specs.declared.profile.Profile.TheVariants.{Named}
 use Rattle.teco_check.proofs.jumps.gathered.Given as goal
 
 -- the lists that are open begin in the text
@@ -9,7 +10,8 @@ invariant-gathering l = record {
   inside : l.at ≤ length l.text;
   deep : l.depth ≤ BLOCK_LIMIT;
   begun : AreInside l.text l.starts (l.depth + 1);
-  text : l.tags ≡ l.text;
+  text : l.tags.bytes.now ≡ l.text;
+  named : l.tags.profile ≡ Named;
 }
 
 abbrev pub decreases-gathering : goal.decreases-gathering

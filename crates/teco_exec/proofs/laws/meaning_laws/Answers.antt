@@ -1,5 +1,6 @@
 use Rattle.teco_exec.proofs.Sentences as sentences
 use Rattle.teco_exec.proofs.StringLaws.{within_limit, more_limit, same_again, limits_reached, limit_zero, exit_ends_well}
+use Rattle.teco_exec.proofs.Profiles.{profile_kept}
 use Rattle.teco_exec.proofs.laws.meaning_laws.Goals as goal
 
 pub returns : goal.returns
@@ -22,4 +23,5 @@ returns c = record {
   reached = limits_reached c.machine_laws.ensures.means;
   limit_zero = limit_zero c.machine_laws.ensures.follows;
   exit = exit_ends_well c.machine_laws.ensures.means c.effect_laws.ensures.done;
+  profile = profile_kept c.effect_laws.ensures.profile c.machine_laws.ensures.follows;
 }

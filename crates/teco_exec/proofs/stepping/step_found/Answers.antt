@@ -22,7 +22,7 @@ returns-in-Passed g c = record {
   leads = λ o callers at.
       continues o _ _ at (at_cursor c.pass.new.self callers)
       (passes_on c.block_laws.ensures c.args.cursor.now c.pass.new.self c.args.found.now callers c.in-Passed.ensures.text c.in-Passed.ensures.comes);
-  quiet = λ q. comes_quietly c.block_laws.ensures c.args.cursor.now c.pass.new.self c.args.found.now Passed c.in-Passed.ensures.comes q;
+  quiet = λ q. comes_quietly c.block_laws.ensures c.args.cursor.now c.pass.new.self c.args.found.now Passed c.in-Passed.ensures.text c.in-Passed.ensures.comes q;
   around = tt;
   stood = tt;
   visited = λ k from to. absurd (omega arith);
@@ -40,39 +40,39 @@ returns-in-Token g c = record {
       (comes_token c.block_laws.ensures c.args.cursor.now c.pass.new.self c.args.found.now callers c.in-Step.ensures.text c.in-Token.token c.in-Token.is c.in-Step.ensures.comes)).going;
   quiet = λ q.
       let to = c.pass.new.self in
-      let come = comes_quietly c.block_laws.ensures c.args.cursor.now to c.args.found.now Step c.in-Step.ensures.comes q in
-      let here = subst (λ f. QuietComing (coming_of_found to f)) c.in-Token.is come in
-      let told = subst (λ f. IsStepFound to.text.now f) c.in-Token.is c.in-Step.ensures.told in
-      c.token_steps.ensures.quiet here.1 (kind_quietly to.text.now (length to.text.now) c.in-Token.token.kind told here.0);
+      let come = comes_quietly c.block_laws.ensures c.args.cursor.now to c.args.found.now Step c.in-Step.ensures.text c.in-Step.ensures.comes q in
+      let here = subst (λ f. QuietComing to.text.profile (coming_of_found to f)) c.in-Token.is come in
+      let told = subst (λ f. IsStepFound to.text.bytes.now f) c.in-Token.is c.in-Step.ensures.told in
+      c.token_steps.ensures.quiet here.1 (kind_quietly to.text.bytes.now (length to.text.bytes.now) c.in-Token.token.kind told here.0);
   around =
       let to = c.pass.new.self in
-      let told = subst (λ f. IsStepFound to.text.now f) c.in-Token.is c.in-Step.ensures.told in
+      let told = subst (λ f. IsStepFound to.text.bytes.now f) c.in-Token.is c.in-Step.ensures.told in
       last_blocks _ c.args.cursor.now to c.token_steps.new.cursor c.token_steps.result c.token_steps.new.steps.done c.token_steps.ensures.text
-      (token_blocks c.args.cursor.now to c.args.found.now c.in-Token.token c.in-Token.is c.requires.read c.in-Step.ensures.comes c.in-Step.ensures.text (length to.text.now, told))
+      (token_blocks c.args.cursor.now to c.args.found.now c.in-Token.token c.in-Token.is c.requires.read c.in-Step.ensures.comes c.in-Step.ensures.text (length to.text.bytes.now, told))
       c.token_steps.ensures.stood c.token_steps.ensures.stays;
   stood =
       let to = c.pass.new.self in
-      let told = subst (λ f. IsStepFound to.text.now f) c.in-Token.is c.in-Step.ensures.told in
+      let told = subst (λ f. IsStepFound to.text.bytes.now f) c.in-Token.is c.in-Step.ensures.told in
       on_last c.token_steps.result c.token_steps.new.steps.done (λ k h o callers at. record {
         there = token_standing to c.in-Token.token callers;
         stands = h o callers
             (continues o _ _ at (at_token to c.in-Token.token None callers)
             (comes_token c.block_laws.ensures c.args.cursor.now to c.args.found.now callers c.in-Step.ensures.text c.in-Token.token c.in-Token.is c.in-Step.ensures.comes)).going;
-        is = token_is c.args.cursor.now to c.args.found.now c.in-Token.token c.in-Token.is c.requires.read c.in-Step.ensures.comes c.in-Step.ensures.text (length to.text.now, told) callers;
+        is = token_is c.args.cursor.now to c.args.found.now c.in-Token.token c.in-Token.is c.requires.read c.in-Step.ensures.comes c.in-Step.ensures.text (length to.text.bytes.now, told) callers;
       }) c.token_steps.ensures.stood;
   visited = λ k from below o callers at.
       let to = c.pass.new.self in
-      let told = subst (λ f. IsStepFound to.text.now f) c.in-Token.is c.in-Step.ensures.told in record {
+      let told = subst (λ f. IsStepFound to.text.bytes.now f) c.in-Token.is c.in-Step.ensures.told in record {
         there = token_standing to c.in-Token.token callers;
         stands = c.token_steps.ensures.visited k from below o callers
             (continues o _ _ at (at_token to c.in-Token.token None callers)
             (comes_token c.block_laws.ensures c.args.cursor.now to c.args.found.now callers c.in-Step.ensures.text c.in-Token.token c.in-Token.is c.in-Step.ensures.comes)).going;
-        is = token_is c.args.cursor.now to c.args.found.now c.in-Token.token c.in-Token.is c.requires.read c.in-Step.ensures.comes c.in-Step.ensures.text (length to.text.now, told) callers;
+        is = token_is c.args.cursor.now to c.args.found.now c.in-Token.token c.in-Token.is c.requires.read c.in-Step.ensures.comes c.in-Step.ensures.text (length to.text.bytes.now, told) callers;
       };
   calls =
       let to = c.pass.new.self in
-      let told = subst (λ f. IsStepFound to.text.now f) c.in-Token.is c.in-Step.ensures.told in
-      flow_read c.args.cursor.now to c.args.found.now c.in-Token.token c.in-Token.is c.requires.read c.in-Step.ensures.comes c.in-Step.ensures.text (length to.text.now, told)
+      let told = subst (λ f. IsStepFound to.text.bytes.now f) c.in-Token.is c.in-Step.ensures.told in
+      flow_read c.args.cursor.now to c.args.found.now c.in-Token.token c.in-Token.is c.requires.read c.in-Step.ensures.comes c.in-Step.ensures.text (length to.text.bytes.now, told)
       c.token_steps.new.cursor c.token_steps.result c.token_steps.ensures.text c.token_steps.ensures.stays c.token_steps.ensures.calls;
 }
 
@@ -85,7 +85,7 @@ returns-in-Block g c = record {
       c.block_step.ensures.leads (g.T.Terminal.screen c.args.term.now) o callers
       (continues o _ _ at (at_block_step c.pass.new.self c.in-Block.block c.in-Block.to callers)
       (comes_block c.block_laws.ensures c.args.cursor.now c.pass.new.self c.args.found.now callers c.in-Block.ensures.told.2 c.in-Block.block c.in-Block.to c.in-Block.ensures.comes)).going;
-  quiet = λ q. absurd (comes_quietly c.block_laws.ensures c.args.cursor.now c.pass.new.self c.args.found.now (Block c.in-Block.block c.in-Block.to) c.in-Block.ensures.comes q);
+  quiet = λ q. absurd (comes_quietly c.block_laws.ensures c.args.cursor.now c.pass.new.self c.args.found.now (Block c.in-Block.block c.in-Block.to) c.in-Block.ensures.text c.in-Block.ensures.comes q);
   around =
       last_blocks _ c.args.cursor.now c.pass.new.self c.block_step.new.cursor c.block_step.result c.block_step.new.steps.done c.block_step.ensures.text
       (ap (λ (y : Cursor). (cursor y).blocks) c.in-Block.ensures.told.2) c.block_step.ensures.stood c.block_step.ensures.stays;
@@ -107,7 +107,7 @@ returns-in-End g c = record {
   counts = counts_none says_on;
   advances = λ on. absurd on;
   leads = λ o callers at.
-      continues o _ _ at (at_return (arguments c.pass.new.self.args) callers)
+      continues o _ _ at (at_return c.pass.new.self.text.profile (arguments c.pass.new.self.args) callers)
       (comes_over c.block_laws.ensures c.args.cursor.now c.pass.new.self c.args.found.now callers c.in-End.ensures.told c.in-End.ensures.comes);
   quiet = λ q. tt;
   around = tt;

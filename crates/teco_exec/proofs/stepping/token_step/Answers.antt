@@ -24,11 +24,11 @@ returns-in-Some-unfinished-clause-leads g c o callers at =
     elim c.if-is_given_up.branch [
       | then-is_given_up w ↦ rw (w.steps-is, w.code-is) (
           token_given_up from c.args.token.now c.args.work callers c.iteration_is_seen-inside.result c.leave_is_seen-before.result c.requires c.iteration_is_seen-inside.ensures c.leave_is_seen-before.ensures
-          o _ at c.args.steps.now.limit (c.are_over.ensures.left c.if-are_over.false) (name_in from.text.now c.args.token.now) (g.D.Desk.state step.new.desk) step.new.args (g.T.Terminal.screen step.new.term) step.result (g.D.Desk.follows step.new.desk) step.ensures.follows
+          o _ at c.args.steps.now.limit (c.are_over.ensures.left c.if-are_over.false) (name_in from.text.bytes.now c.args.token.now) (g.D.Desk.state step.new.desk) step.new.args (g.T.Terminal.screen step.new.term) step.result (g.D.Desk.follows step.new.desk) step.ensures.follows
           c.in-Some-unfinished.code c.in-Some-unfinished.ensures.0 (c.is_given_up.ensures.memory w.if-is_given_up.true) step.ensures.steps)
       | else-is_given_up w ↦ rw (w.steps-is, w.code-is) (
           token_fails from c.args.token.now c.args.work callers c.iteration_is_seen-inside.result c.leave_is_seen-before.result c.requires c.iteration_is_seen-inside.ensures c.leave_is_seen-before.ensures
-          o _ at c.args.steps.now.limit (c.are_over.ensures.left c.if-are_over.false) (name_in from.text.now c.args.token.now) (g.D.Desk.state step.new.desk) step.new.args (g.T.Terminal.screen step.new.term) step.result (g.D.Desk.follows step.new.desk) step.ensures.follows
+          o _ at c.args.steps.now.limit (c.are_over.ensures.left c.if-are_over.false) (name_in from.text.bytes.now c.args.token.now) (g.D.Desk.state step.new.desk) step.new.args (g.T.Terminal.screen step.new.term) step.result (g.D.Desk.follows step.new.desk) step.ensures.follows
           c.in-Some-unfinished.code c.in-Some-unfinished.ensures.0 c.in-Some-unfinished.ensures.1 step.ensures.steps)
     ]
 
@@ -38,7 +38,7 @@ returns-clause-leads g c o callers at =
     let step = c.step_token-next in
     let to = c.resume.new.cursor in
     token_goes from c.args.token.now c.args.work callers c.iteration_is_seen-inside.result c.leave_is_seen-before.result c.requires c.iteration_is_seen-inside.ensures c.leave_is_seen-before.ensures
-    o _ at c.count.new.self.limit (omega (arith, c.are_over.ensures.left c.if-are_over.false, c.count.ensures.limit)) (name_in from.text.now c.args.token.now) (g.D.Desk.state step.new.desk) step.new.args (g.T.Terminal.screen step.new.term) step.result (g.D.Desk.follows step.new.desk) step.ensures.follows
+    o _ at c.count.new.self.limit (omega (arith, c.are_over.ensures.left c.if-are_over.false, c.count.ensures.limit)) (name_in from.text.bytes.now c.args.token.now) (g.D.Desk.state step.new.desk) step.new.args (g.T.Terminal.screen step.new.term) step.result (g.D.Desk.follows step.new.desk) step.ensures.follows
     c.in_default-unfinished.ensures step.ensures.steps c.count.new.self.done c.count.ensures.done (g.D.Desk.state c.step_done.new.self) c.step_done.ensures.state (g.D.Desk.follows c.step_done.new.self) c.step_done.ensures.follows
     (reached_by_progress to c.args.token.now callers c.resume.result) (progress_finishes to c.args.token.now callers c.resume.result c.resume.ensures.finished)
     (λ now. c.resume.ensures.resumes (g.D.Desk.state step.new.desk) callers now)
@@ -46,8 +46,8 @@ returns-clause-leads g c o callers at =
 pub resume-requires-clause-no_call : goal.resume-requires-clause-no_call
 resume-requires-clause-no_call g c q e =
     let from = c.args.cursor.now in
-    never_calls c.effect_laws.ensures.call from.text.now c.args.token.now c.args.work c.iteration_is_seen-inside.result c.leave_is_seen-before.result (g.D.Desk.state c.args.desk.now) (arguments from.args)
-    (name_in from.text.now c.args.token.now) _ _ c.step_token-next.result c.requires c.in_default.ensures c.step_token-next.ensures.steps q e
+    never_calls c.effect_laws.ensures.call from.text.bytes.now c.args.token.now c.args.work c.iteration_is_seen-inside.result c.leave_is_seen-before.result (g.D.Desk.state c.args.desk.now) (arguments from.args)
+    (name_in from.text.bytes.now c.args.token.now) _ _ c.step_token-next.result c.requires c.in_default.ensures c.step_token-next.ensures.steps q e
 
 pub returns-clause-stays : goal.returns-clause-stays
 returns-clause-stays g c = progress_stays_on c.args.cursor.now _ c.resume.new.cursor c.resume.result (record { place = refl; frames = refl }) c.resume.ensures.stays

@@ -11,7 +11,7 @@ stepping-preserved g c = record {
   text = c.in-Further.ensures.text ∙ c.stepping.invariant.text;
   stays = stays_on c.stepping.invariant.stays c.in-Further.ensures.stays;
   counts = counts_on c.stepping.invariant.counts (counts_so (λ e. absurd cc) c.in-Further.ensures.counts);
-  quiet = λ q h. absurd (c.in-Further.ensures.quiet (c.stepping.invariant.quiet q h) (subst (λ t. takes_nothing_in t.now c.args.token.now ≡ true) (sym c.stepping.invariant.text) h));
+  quiet = λ q h. absurd (c.in-Further.ensures.quiet (c.stepping.invariant.quiet q h) (subst (λ t. takes_nothing_in t.bytes.now c.args.token.now ≡ true) (sym c.stepping.invariant.text) h));
   going = λ o callers at.
       let there = c.stepping.invariant.going o callers at in
       since 0 o _ _ _ (goes (at_token c.token_step.new.cursor c.args.token.now (Some c.in-Further.left) callers)) there.follows (c.in-Further.ensures.leads o callers there.going);

@@ -12,7 +12,7 @@ invariant-stepping g l = record {
   text : l.cursor.text ≡ l.fn.cursor.text;
   stays : Stays l.fn.cursor l.cursor;
   counts : CountsSteps (g.S.Stop.answered l.fn.stop) (g.S.Stop.answered l.stop) ⊥ l.fn.steps l.steps;
-  quiet : IsQuiet (cursor l.fn.cursor) → takes_nothing_in l.fn.cursor.text.now l.token ≡ true → IsQuiet (cursor l.cursor);
+  quiet : IsQuiet l.fn.cursor.text.profile (cursor l.fn.cursor) → takes_nothing_in l.fn.cursor.text.bytes.now l.token ≡ true → IsQuiet l.cursor.text.profile (cursor l.cursor);
   going : (o : Origin) (callers : List Caller)
       → RunGoesOn o (host g.D.Desk g.T.Terminal (l.fn.desk, l.fn.term, l.fn.steps)) (at_token l.fn.cursor l.token None callers)
       → ReachesContinuation o (host g.D.Desk g.T.Terminal (l.fn.desk, l.fn.term, l.fn.steps))

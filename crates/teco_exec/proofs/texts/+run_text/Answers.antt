@@ -1,17 +1,18 @@
-use Rattle.std.proofs.Common.{◌≡◌, true, false, is_some, ◌<◌, ◌≤◌, inl, ◌+◌, ◌-◌, ◌∷◌, length, drop, None, Some, refl, sym, subst, ap, ◌∙◌, arith, rules}
+use Rattle.std.proofs.Common.{◌≡◌, ◌<◌, ◌≤◌, inl, ◌+◌, ◌-◌, ◌∷◌, [], length, drop, None, Some, refl, sym, subst, ap, ◌∙◌, arith, rules}
 use Rattle.std.proofs.lemmas.List.{length-drop}
+use Rattle.teco_scan.specs.declared.text.Text.{Text}
 use Rattle.teco_core.specs.ArgumentsView.{arguments}
 use Rattle.teco_exec.specs.View.{cursor}
 use Rattle.teco_scan.specs.Breaks.{IsTokenPlace}
-use Rattle.teco_exec.specs.Running.{StandsWhereTold, caller, at_cursor, at_return, code_left, goes, host, over, reached_after_call, stops}
+use Rattle.teco_exec.specs.Running.{ReachesContinuation, StandsWhereTold, caller, at_cursor, at_return, goes, host, over, reached_after_call, stops}
 use Rattle.teco_exec.proofs.Continuations.{begins, comes_home, less_left, too_deep}
-use Rattle.teco_exec.proofs.Calls.{ends_around, enters_copy, tells_around, tells_on}
+use Rattle.teco_exec.proofs.Calls.{enters_copy, tells_around, tells_on}
 use Rattle.teco_exec.proofs.Going.{since}
 use Rattle.teco_exec.proofs.NoMemory.{begins_quietly}
-use Rattle.teco_exec.specs.Places.{IsReadAt, call_token, told_here, with_call, wanted_in}
-use Rattle.teco_exec.proofs.Placings.{call_told_here, called_told, stood_told}
+use Rattle.teco_exec.specs.Places.{HaveCalled, told_here, with_call, wanted_in}
+use Rattle.teco_exec.proofs.Placings.{call_profile, call_told_here, called_told, stood_told}
 use Rattle.teco_exec.proofs.Visited.{call_made, one_call_more, visited_call}
-use Rattle.teco_exec.proofs.Stepped.{call_fails, call_leads, call_unpaid, counts_none, counts_on, counts_one, counts_over, counts_so, says_on, text_in}
+use Rattle.teco_exec.proofs.Stepped.{call_fails, call_leads, call_unpaid, counts_none, counts_on, counts_over, counts_so, says_on, text_in}
 use Rattle.teco_core.specs.declared.code.Code.TheVariants.{Pdo}
 use Rattle.teco_exec.proofs.texts.+run_text.Goals as goal
 
@@ -22,28 +23,28 @@ run_in-running-init g t c = record {
   depth = refl;
   watch = λ knows. knows;
   visits = λ o callers calls deep called e wanted first p. p;
-  quiet = begins_quietly (arguments c.args.args.now) c.args.text.now (cursor c.begin-cursor.result) c.begin-cursor.ensures.begins;
-  going = λ o callers deep e. begins o _ (arguments c.args.args.now) c.args.text.now c.begin-cursor.result callers c.begin-cursor.ensures.text c.begin-cursor.ensures.begins e;
+  quiet = begins_quietly (arguments c.args.args.now) c.args.text c.begin-cursor.result c.begin-cursor.ensures.text c.begin-cursor.ensures.begins;
+  going = λ o callers deep e. begins o _ (arguments c.args.args.now) c.args.text c.begin-cursor.result callers c.begin-cursor.ensures.text c.begin-cursor.ensures.begins e;
 }
 
 pub run_in-running-smaller-in-On : goal.run_in-running-smaller-in-On
 run_in-running-smaller-in-On g t c =
     let steps = c.step_watched.new.running.steps in
     let to = c.step_watched.new.cursor in
-    let short : length (drop to.at to.text.now) ≤ length c.args.text.now =
-    let same : length to.text.now ≡ length c.args.text.now = ap length (ap (λ x. x.now) c.in-On.ensures.step.text ∙ c.running.invariant.text) in
-    omega (arith, same, length-drop to.at to.text.now) in
-    less_left steps.limit c.running.running.steps.limit c.running.running.steps.done steps.done (length c.args.text.now) (length (cursor c.running.cursor).left) (length (cursor to).left) c.in-On.ensures.step.counts.limit c.in-On.ensures.step.counts.more steps.within short (c.in-On.ensures.step.advances tt)
+    let short : length (drop to.at to.text.bytes.now) ≤ length c.args.text.bytes.now =
+    let same : length to.text.bytes.now ≡ length c.args.text.bytes.now = ap (λ (x : Text). length x.bytes.now) (c.in-On.ensures.step.text ∙ c.running.invariant.text) in
+    omega (arith, same, length-drop to.at to.text.bytes.now) in
+    less_left steps.limit c.running.running.steps.limit c.running.running.steps.done steps.done (length c.args.text.bytes.now) (length (cursor c.running.cursor).left) (length (cursor to).left) c.in-On.ensures.step.counts.limit c.in-On.ensures.step.counts.more steps.within short (c.in-On.ensures.step.advances tt)
 
 pub run_in-running-preserved-in-On : goal.run_in-running-preserved-in-On
 run_in-running-preserved-in-On g t c = record {
-  text = ap (λ x. x.now) c.in-On.ensures.step.text ∙ c.running.invariant.text;
+  text = c.in-On.ensures.step.text ∙ c.running.invariant.text;
   counts = counts_on c.running.invariant.counts (counts_so (λ e. absurd cc) c.in-On.ensures.step.counts);
   depth = c.in-On.ensures.depth ∙ c.running.invariant.depth;
   watch = λ knows. c.in-On.ensures.knows None (c.running.invariant.watch knows);
   visits = λ o callers calls deep called e wanted first p.
       let there = c.running.invariant.going o callers deep e in
-      c.in-On.ensures.visits o callers calls (deep ∙ sym c.running.invariant.depth) called there.going wanted first (c.running.invariant.visits o callers calls deep called e wanted first p);
+      c.in-On.ensures.visits o callers calls (deep ∙ sym c.running.invariant.depth) (subst (λ (x : Text). HaveCalled x.profile calls callers []) (sym c.running.invariant.text) called) there.going wanted first (c.running.invariant.visits o callers calls deep called e wanted first p);
   quiet = λ h. c.in-On.ensures.step.quiet (c.running.invariant.quiet h);
   going = λ o callers deep e.
       let there = c.running.invariant.going o callers deep e in
@@ -53,7 +54,12 @@ run_in-running-preserved-in-On g t c = record {
 pub run_in-returns-in-Return-clause-leads : goal.run_in-returns-in-Return-clause-leads
 run_in-returns-in-Return-clause-leads g t c o callers deep e =
     let there = c.running.invariant.going o callers deep e in
-    rw c.copy_from.ensures (since 0 o _ _ _ (goes (at_return (arguments c.step_watched.new.cursor.args) callers)) there.follows (c.in-Return.ensures.step.leads o callers there.going))
+    let before = host g.D.Desk g.T.Terminal (c.args.desk.now, c.args.term.now, c.args.running.now.steps) in
+    let after = host g.D.Desk g.T.Terminal (c.step_watched.new.desk, c.step_watched.new.term, c.step_watched.new.running.steps) in
+    let to = c.step_watched.new.cursor in
+    rw c.copy_from.ensures
+    (subst (λ (x : Text). ReachesContinuation o before after (at_return x.profile (arguments to.args) callers)) (c.in-Return.ensures.step.text ∙ c.running.invariant.text)
+    (since 0 o before _ after (goes (at_return to.text.profile (arguments to.args) callers)) there.follows (c.in-Return.ensures.step.leads o callers there.going)))
 
 pub run_in-returns-in-Over-clause-leads : goal.run_in-returns-in-Over-clause-leads
 run_in-returns-in-Over-clause-leads g t c o callers deep e =
@@ -82,14 +88,14 @@ run_in-running-smaller g t c =
     let to = c.step_watched.new.cursor in
     let back = c.run_called.new.cursor in
     let left : length (cursor back).left ≡ length (cursor to).left = ap length c.in-Return-run_called.ensures.left in
-    let short : length (cursor back).left ≤ length c.args.text.now =
-    let same : length to.text.now ≡ length c.args.text.now = ap length (ap (λ x. x.now) c.in-Call.ensures.step.text ∙ c.running.invariant.text) in
-    omega (arith, same, left, length-drop to.at to.text.now) in
-    less_left steps.limit c.running.running.steps.limit c.running.running.steps.done steps.done (length c.args.text.now) (length (cursor c.running.cursor).left) (length (cursor back).left) (omega (arith, c.in-Call.ensures.step.counts.limit, c.in-Return-run_called.ensures.counts.limit)) (omega (arith, c.in-Call.ensures.step.counts.more, c.in-Return-run_called.ensures.counts.more)) steps.within short (inl (omega (arith, c.in-Call.ensures.step.counts.more, c.in-Return-run_called.ensures.more refl)))
+    let short : length (cursor back).left ≤ length c.args.text.bytes.now =
+    let same : length to.text.bytes.now ≡ length c.args.text.bytes.now = ap (λ (x : Text). length x.bytes.now) (c.in-Call.ensures.step.text ∙ c.running.invariant.text) in
+    omega (arith, same, left, length-drop to.at to.text.bytes.now) in
+    less_left steps.limit c.running.running.steps.limit c.running.running.steps.done steps.done (length c.args.text.bytes.now) (length (cursor c.running.cursor).left) (length (cursor back).left) (omega (arith, c.in-Call.ensures.step.counts.limit, c.in-Return-run_called.ensures.counts.limit)) (omega (arith, c.in-Call.ensures.step.counts.more, c.in-Return-run_called.ensures.counts.more)) steps.within short (inl (omega (arith, c.in-Call.ensures.step.counts.more, c.in-Return-run_called.ensures.more refl)))
 
 pub run_in-running-preserved : goal.run_in-running-preserved
 run_in-running-preserved g t c = record {
-  text = ap (λ x. x.now) (c.in-Return-run_called.ensures.text ∙ c.in-Call.ensures.step.text) ∙ c.running.invariant.text;
+  text = c.in-Return-run_called.ensures.text ∙ c.in-Call.ensures.step.text ∙ c.running.invariant.text;
   counts = counts_on c.running.invariant.counts (counts_on (counts_so (λ e. absurd cc) c.in-Call.ensures.step.counts) (counts_so (λ e. absurd cc) c.in-Return-run_called.ensures.counts));
   depth = c.in-Return-run_called.ensures.depth ∙ c.in-Call.ensures.depth ∙ c.running.invariant.depth;
   watch = λ knows. c.in-Return-run_called.ensures.told (c.in-Call.ensures.knows None (c.running.invariant.watch knows));
@@ -97,8 +103,9 @@ run_in-running-preserved g t c = record {
       let there = c.running.invariant.going o callers deep e in
       let here = c.in-Call.ensures.step.leads o callers there.going in
       let same = deep ∙ sym c.running.invariant.depth in
-      c.in-Return-run_called.ensures.visits o callers calls (same ∙ sym c.in-Call.ensures.depth) called here.going wanted first
-      (c.in-Call.ensures.visits o callers calls same called there.going wanted first (c.running.invariant.visits o callers calls deep called e wanted first p));
+      c.in-Return-run_called.ensures.visits o callers calls (same ∙ sym c.in-Call.ensures.depth)
+      (subst (λ (x : Text). HaveCalled x.profile calls callers []) (sym (c.in-Call.ensures.step.text ∙ c.running.invariant.text)) called) here.going wanted first
+      (c.in-Call.ensures.visits o callers calls same (subst (λ (x : Text). HaveCalled x.profile calls callers []) (sym c.running.invariant.text) called) there.going wanted first (c.running.invariant.visits o callers calls deep called e wanted first p));
   quiet = λ h. absurd (c.in-Call.ensures.step.quiet (c.running.invariant.quiet h));
   going = λ o callers deep e.
       let there = c.running.invariant.going o callers deep e in
@@ -125,7 +132,7 @@ pub run_in-returns-in-Fail-clause-told : goal.run_in-returns-in-Fail-clause-told
 run_in-returns-in-Fail-clause-told g t c knows =
     let told = c.stood.ensures.told (c.in-Fail.ensures.knows None (c.running.invariant.watch knows)) in
     let done = c.step_watched.new.running.steps.done in (
-      told_here (done - 1) c.step_watched.new.cursor.text.now told.0 (cursor c.step_watched.new.cursor).blocks,
+      told_here c.step_watched.new.cursor.text.profile (done - 1) c.step_watched.new.cursor.text.bytes.now told.0 (cursor c.step_watched.new.cursor).blocks,
       told.2,
       omega (arith, c.in-Fail.ensures.step.stood.0),
       λ o callers deep e.
@@ -137,7 +144,7 @@ run_in-returns-in-Fail-clause-told g t c knows =
 pub run_in-returns-in-Stop-clause-told : goal.run_in-returns-in-Stop-clause-told
 run_in-returns-in-Stop-clause-told g t c knows =
     let told = c.stood-in-Stop.ensures.told (c.in-Stop.ensures.knows None (c.running.invariant.watch knows)) in (
-      told_here c.step_watched.new.running.steps.done c.step_watched.new.cursor.text.now told.0 (cursor c.step_watched.new.cursor).blocks,
+      told_here c.step_watched.new.cursor.text.profile c.step_watched.new.running.steps.done c.step_watched.new.cursor.text.bytes.now told.0 (cursor c.step_watched.new.cursor).blocks,
       told.2,
       refl,
       λ o callers deep e.
@@ -149,7 +156,7 @@ run_in-returns-in-Stop-clause-told g t c knows =
 pub run_called-returns-then-are_over-clause-told : goal.run_called-returns-then-are_over-clause-told
 run_called-returns-then-are_over-clause-told g t c knows =
     let told = c.stood.ensures.told knows in (
-      told_here c.args.running.now.steps.done c.args.cursor.now.text.now told.0 (cursor c.args.cursor.now).blocks,
+      told_here c.args.cursor.now.text.profile c.args.running.now.steps.done c.args.cursor.now.text.bytes.now told.0 (cursor c.args.cursor.now).blocks,
       told.2,
       refl,
       λ o callers deep e.
@@ -159,7 +166,7 @@ run_called-returns-then-are_over-clause-told g t c knows =
 pub run_called-returns-in-Err-clause-told : goal.run_called-returns-in-Err-clause-told
 run_called-returns-in-Err-clause-told g t c knows =
     let told = c.stood-in-Err.ensures.told (c.stepped.ensures.knows None knows) in (
-      told_here c.args.running.now.steps.done c.args.cursor.now.text.now told.0 (cursor c.args.cursor.now).blocks,
+      told_here c.args.cursor.now.text.profile c.args.running.now.steps.done c.args.cursor.now.text.bytes.now told.0 (cursor c.args.cursor.now).blocks,
       told.2,
       refl,
       λ o callers deep e.
@@ -167,10 +174,10 @@ run_called-returns-in-Err-clause-told g t c knows =
     )
 
 pub run_in-stood-requires : goal.run_in-stood-requires
-run_in-stood-requires g t c = subst (λ x. c.running.cursor.at ≤ length x.now) (sym c.in-Fail.ensures.step.text) c.running.cursor.within
+run_in-stood-requires g t c = subst (λ (x : Text). c.running.cursor.at ≤ length x.bytes.now) (sym c.in-Fail.ensures.step.text) c.running.cursor.within
 
 pub run_in-stood-requires-in-Stop : goal.run_in-stood-requires-in-Stop
-run_in-stood-requires-in-Stop g t c = subst (λ x. c.running.cursor.at ≤ length x.now) (sym c.in-Stop.ensures.step.text) c.running.cursor.within
+run_in-stood-requires-in-Stop g t c = subst (λ (x : Text). c.running.cursor.at ≤ length x.bytes.now) (sym c.in-Stop.ensures.step.text) c.running.cursor.within
 
 pub run_in-returns-in-Return-clause-counts : goal.run_in-returns-in-Return-clause-counts
 run_in-returns-in-Return-clause-counts g t c = counts_on c.running.invariant.counts (counts_so (λ e. absurd cc) c.in-Return.ensures.step.counts)
@@ -205,7 +212,7 @@ run_called-returns-then-running-eq-CALL_LIMIT-clause-told g t c knows =
     let told = c.stood-then-running-eq-CALL_LIMIT.ensures.told (c.stepped.ensures.knows None knows) in
     let before = c.count.new.self.done - 1 in
     let same : before ≡ c.args.running.now.steps.done = omega (arith, c.count.ensures.done) in (
-      told_here before c.args.cursor.now.text.now told.0 (cursor c.args.cursor.now).blocks,
+      told_here c.args.cursor.now.text.profile before c.args.cursor.now.text.bytes.now told.0 (cursor c.args.cursor.now).blocks,
       told.2,
       omega (arith, c.count.ensures.done),
       λ o callers deep e.
@@ -217,22 +224,22 @@ run_called-returns-then-len-le-SHORT_LIMIT-clause-told g t c knows =
     let q = c.args.site.register in
     let at = c.args.site.at in
     let ran = c.run_copy-exit in
-    tells_around g.W.Watch.knows ran.new.running.watch c.tell_call.new.watch _ _ ran.result ran.new.running.steps.done ran.new.cursor.text.now at q (cursor ran.new.cursor).blocks
+    tells_around g.W.Watch.knows ran.new.running.watch c.tell_call.new.watch _ _ ran.result ran.new.running.steps.done ran.new.cursor.text.bytes.now at q (cursor ran.new.cursor).blocks
     c.tell_call.ensures.none c.tell_call.ensures.some (ran.ensures.told q (search rules) (c.stepped.ensures.knows None knows))
     (λ p to inside place o callers deep e.
     subst (λ bs. StandsWhereTold o callers (with_call p q to bs)) (sym ran.ensures.blocks)
-    (called_told o c.args.cursor.now q at to callers p (inside o callers deep e) c.requires.token (subst (λ x. IsTokenPlace x.now at to) ran.ensures.text place)))
+    (called_told o c.args.cursor.now q at to callers p (call_profile o _ c.args.cursor.now q callers e) (inside o callers deep e) c.requires.token (subst (λ (x : Text). IsTokenPlace x.bytes.now at to) ran.ensures.text place)))
 
 pub run_called-returns-in-Ok-clause-told : goal.run_called-returns-in-Ok-clause-told
 run_called-returns-in-Ok-clause-told g t c knows =
     let q = c.args.site.register in
     let at = c.args.site.at in
     let ran = c.run_copy-exit-in-Ok in
-    tells_around g.W.Watch.knows ran.new.running.watch c.tell_call-in-Ok.new.watch _ _ ran.result ran.new.running.steps.done ran.new.cursor.text.now at q (cursor ran.new.cursor).blocks
+    tells_around g.W.Watch.knows ran.new.running.watch c.tell_call-in-Ok.new.watch _ _ ran.result ran.new.running.steps.done ran.new.cursor.text.bytes.now at q (cursor ran.new.cursor).blocks
     c.tell_call-in-Ok.ensures.none c.tell_call-in-Ok.ensures.some (ran.ensures.told q (search rules) (c.stepped.ensures.knows None knows))
     (λ p to inside place o callers deep e.
     subst (λ bs. StandsWhereTold o callers (with_call p q to bs)) (sym ran.ensures.blocks)
-    (called_told o c.args.cursor.now q at to callers p (inside o callers deep e) c.requires.token (subst (λ x. IsTokenPlace x.now at to) ran.ensures.text place)))
+    (called_told o c.args.cursor.now q at to callers p (call_profile o _ c.args.cursor.now q callers e) (inside o callers deep e) c.requires.token (subst (λ (x : Text). IsTokenPlace x.bytes.now at to) ran.ensures.text place)))
 
 pub run_copy-returns-clause-leads : goal.run_copy-returns-clause-leads
 run_copy-returns-clause-leads g t c q copy o callers deep e =
@@ -263,22 +270,22 @@ run_copy-returns-clause-told g t c q copy knows =
 pub run_in-returns-in-Return-clause-visits : goal.run_in-returns-in-Return-clause-visits
 run_in-returns-in-Return-clause-visits g t c o callers calls deep called e wanted first p =
     let there = c.running.invariant.going o callers deep e in
-    c.in-Return.ensures.visits o callers calls (deep ∙ sym c.running.invariant.depth) called there.going wanted first (c.running.invariant.visits o callers calls deep called e wanted first p)
+    c.in-Return.ensures.visits o callers calls (deep ∙ sym c.running.invariant.depth) (subst (λ (x : Text). HaveCalled x.profile calls callers []) (sym c.running.invariant.text) called) there.going wanted first (c.running.invariant.visits o callers calls deep called e wanted first p)
 
 pub run_in-returns-in-Over-clause-visits : goal.run_in-returns-in-Over-clause-visits
 run_in-returns-in-Over-clause-visits g t c o callers calls deep called e wanted first p =
     let there = c.running.invariant.going o callers deep e in
-    c.in-Over.ensures.visits o callers calls (deep ∙ sym c.running.invariant.depth) called there.going wanted first (c.running.invariant.visits o callers calls deep called e wanted first p)
+    c.in-Over.ensures.visits o callers calls (deep ∙ sym c.running.invariant.depth) (subst (λ (x : Text). HaveCalled x.profile calls callers []) (sym c.running.invariant.text) called) there.going wanted first (c.running.invariant.visits o callers calls deep called e wanted first p)
 
 pub run_in-returns-in-Fail-clause-visits : goal.run_in-returns-in-Fail-clause-visits
 run_in-returns-in-Fail-clause-visits g t c o callers calls deep called e wanted first p =
     let there = c.running.invariant.going o callers deep e in
-    c.stood.ensures.follows _ _ (c.in-Fail.ensures.visits o callers calls (deep ∙ sym c.running.invariant.depth) called there.going wanted first (c.running.invariant.visits o callers calls deep called e wanted first p))
+    c.stood.ensures.follows _ _ (c.in-Fail.ensures.visits o callers calls (deep ∙ sym c.running.invariant.depth) (subst (λ (x : Text). HaveCalled x.profile calls callers []) (sym c.running.invariant.text) called) there.going wanted first (c.running.invariant.visits o callers calls deep called e wanted first p))
 
 pub run_in-returns-in-Stop-clause-visits : goal.run_in-returns-in-Stop-clause-visits
 run_in-returns-in-Stop-clause-visits g t c o callers calls deep called e wanted first p =
     let there = c.running.invariant.going o callers deep e in
-    c.stood-in-Stop.ensures.follows _ _ (c.in-Stop.ensures.visits o callers calls (deep ∙ sym c.running.invariant.depth) called there.going wanted first (c.running.invariant.visits o callers calls deep called e wanted first p))
+    c.stood-in-Stop.ensures.follows _ _ (c.in-Stop.ensures.visits o callers calls (deep ∙ sym c.running.invariant.depth) (subst (λ (x : Text). HaveCalled x.profile calls callers []) (sym c.running.invariant.text) called) there.going wanted first (c.running.invariant.visits o callers calls deep called e wanted first p))
 
 pub run_called-returns-then-are_over-clause-visits : goal.run_called-returns-then-are_over-clause-visits
 run_called-returns-then-are_over-clause-visits g t c o callers calls deep called e wanted first p = c.stood.ensures.follows _ _ p
@@ -320,5 +327,5 @@ run_copy-returns-clause-visits g t c q copy o callers x calls deep is called e w
     let deeper : length (caller from ∷ callers) ≡ c.args.running.now.depth + 1 = omega (arith, deep) in
     let into = enters_copy from q callers o _ e c.count.new.self.done c.count.ensures.done (g.D.Desk.state c.step_done.new.self) c.step_done.ensures.state (g.D.Desk.follows c.step_done.new.self)
     (g.met.D.Desk.eases c.args.desk.now) c.step_done.ensures.follows c.args.called.now copy fewer in
-    c.run_text-exit.ensures.visits o (caller from ∷ callers) (x ∷ calls) deeper (one_call_more (caller from) callers x calls is called) into.going wanted first
+    c.run_text-exit.ensures.visits o (caller from ∷ callers) (x ∷ calls) deeper (one_call_more from.text.profile (caller from) callers x calls is called) into.going wanted first
     (subst (g.W.Watch.follows c.args.running.now.watch (wanted_in o.state o.text wanted first)) (sym c.count.ensures.done) p)

@@ -26,18 +26,18 @@ decreases-run_copy g l = 5 * (32 - l.running.now.depth)
 
 abbrev pub invariant-run_in-running : goal.invariant-run_in-running
 invariant-run_in-running g l = record {
-  text : l.cursor.text.now ≡ l.text;
+  text : l.cursor.text ≡ l.text;
   counts : CountsSteps (g.S.Stop.answered l.fn.stop) (g.S.Stop.answered l.stop) ⊥ l.fn.running.steps l.running.steps;
   watch : g.W.Watch.knows l.fn.running.watch None → g.W.Watch.knows l.running.watch None;
-  visits : KeepsWatch g.D.Desk g.T.Terminal g.W.Watch.follows l.fn.running.depth (l.fn.desk, l.fn.term, l.fn.running.steps)
-      (at_beginning (arguments l.fn.args) l.text) l.fn.running.watch l.running.watch l.running.steps.done;
+  visits : KeepsWatch l.text.profile g.D.Desk g.T.Terminal g.W.Watch.follows l.fn.running.depth (l.fn.desk, l.fn.term, l.fn.running.steps)
+      (at_beginning l.text.profile (arguments l.fn.args) l.text.bytes.now) l.fn.running.watch l.running.watch l.running.steps.done;
   depth : l.running.depth ≡ l.fn.running.depth;
-  quiet : takes_no_memory (nodes l.text) ≡ true → IsQuiet (cursor l.cursor);
+  quiet : takes_no_memory (nodes l.text.profile l.text.bytes.now) ≡ true → IsQuiet l.cursor.text.profile (cursor l.cursor);
   going : (o : Origin) (callers : List Caller) → length callers ≡ l.fn.running.depth
-      → RunGoesOn o (host g.D.Desk g.T.Terminal (l.fn.desk, l.fn.term, l.fn.running.steps)) (at_beginning (arguments l.fn.args) l.text callers)
+      → RunGoesOn o (host g.D.Desk g.T.Terminal (l.fn.desk, l.fn.term, l.fn.running.steps)) (at_beginning l.text.profile (arguments l.fn.args) l.text.bytes.now callers)
       → ReachesContinuation o (host g.D.Desk g.T.Terminal (l.fn.desk, l.fn.term, l.fn.running.steps))
       (host g.D.Desk g.T.Terminal (l.desk, l.term, l.running.steps)) (at_cursor l.cursor callers);
 }
 
 abbrev pub decreases-run_in-running : goal.decreases-run_in-running
-decreases-run_in-running g l = (l.running.steps.limit - l.running.steps.done) * (length l.text + 1) + length (cursor l.cursor).left
+decreases-run_in-running g l = (l.running.steps.limit - l.running.steps.done) * (length l.text.bytes.now + 1) + length (cursor l.cursor).left

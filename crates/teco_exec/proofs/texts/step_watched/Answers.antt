@@ -4,7 +4,7 @@ use Rattle.teco_exec.proofs.Visited.{visited_at}
 use Rattle.teco_exec.proofs.texts.step_watched.Goals as goal
 
 pub stepped-requires-clause-within : goal.stepped-requires-clause-within
-stepped-requires-clause-within g c = subst (λ x. c.args.cursor.now.at ≤ length x.now) (sym c.step-flow.ensures.text) c.args.cursor.now.within
+stepped-requires-clause-within g c = subst (λ x. c.args.cursor.now.at ≤ length x.bytes.now) (sym c.step-flow.ensures.text) c.args.cursor.now.within
 
 pub returns-clause-visits : goal.returns-clause-visits
 returns-clause-visits g c o callers calls deep called e wanted first p =

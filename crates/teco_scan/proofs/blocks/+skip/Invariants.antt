@@ -16,7 +16,7 @@ abbrev pub invariant-skip_block-loop-code : goal.invariant-skip_block-loop-code
 invariant-skip_block-loop-code l = record {
   past : l.fn.at ≤ l.next;
   inside : l.next ≤ length l.text;
-  closes : (list_at (Some l.kind) l.depth (drop l.next l.text)).1 ≡ (list_at (Some l.kind) l.depth (drop l.fn.at l.text)).1;
+  closes : (list_at l.profile (Some l.kind) l.depth (drop l.next l.text)).1 ≡ (list_at l.profile (Some l.kind) l.depth (drop l.fn.at l.text)).1;
 }
 
 abbrev pub decreases-skip_block-loop-code : goal.decreases-skip_block-loop-code

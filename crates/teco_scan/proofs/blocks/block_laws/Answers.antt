@@ -7,12 +7,12 @@ use Rattle.teco_scan.proofs.ScanFaults.{scan_fault}
 use Rattle.teco_scan.proofs.blocks.block_laws.Goals as goal
 
 pub returns : goal.returns
-returns c = record {
-  list_unrolls = list_step;
-  search_unrolls = tag_step;
-  token_shortens = scan_short;
-  list_shortens = list_short;
-  search_finds = tag_leads;
-  scan_faults = scan_fault;
-  list_faults = list_fault;
+returns c p = record {
+  list_unrolls = list_step p;
+  search_unrolls = tag_step p;
+  token_shortens = scan_short p;
+  list_shortens = list_short p;
+  search_finds = tag_leads p;
+  scan_faults = scan_fault p;
+  list_faults = list_fault p;
 }

@@ -7,7 +7,7 @@ abbrev pub invariant-loop-token : goal.invariant-loop-token
 invariant-loop-token l = record {
   past : l.fn.block_start ≤ l.next;
   inside : l.next ≤ length l.text;
-  finds : tag_at l.name l.depth (drop l.next l.text) ≡ tag_at l.name l.depth (drop l.fn.block_start l.text);
+  finds : tag_at l.profile l.name l.depth (drop l.next l.text) ≡ tag_at l.profile l.name l.depth (drop l.fn.block_start l.text);
 }
 
 abbrev pub decreases-loop-token : goal.decreases-loop-token

@@ -18,17 +18,17 @@ token_here text at t h = record { rest = h.begins; within = omega (arith, h.long
 pub returns-in-End-clause-whole : goal.returns-in-End-clause-whole
 returns-in-End-clause-whole c =
     let list = c.loop-code.list in
-    sym c.loop-code.invariant.whole ∙ found_whole list.kind list.depth _ ended c.in-End.ensures.read ∙ end_whole list.kind list.depth ∙ sym c.end_of_text.ensures.none
+    sym c.loop-code.invariant.whole ∙ found_whole c.args.profile list.kind list.depth _ ended c.in-End.ensures.read ∙ end_whole c.args.profile list.kind list.depth ∙ sym c.end_of_text.ensures.none
 
 pub returns-in-Fault-clause-breaks : goal.returns-in-Fault-clause-breaks
 returns-in-Fault-clause-breaks c =
-    subst (λ (there : ListFault). Breaks c.args.text.now c.args.list c.args.at there) (sym c.fault_at.ensures)
-    (c.loop-code.invariant.comes _ (no_token (record { rest = c.filler_end.ensures.read; within = c.filler_end.ensures.within.1 }) (sym c.in-Fault.ensures.read)))
+    subst (λ (there : ListFault). Breaks c.args.profile c.args.text.now c.args.list c.args.at there) (sym c.fault_at.ensures)
+    (c.loop-code.invariant.comes _ (no_token c.args.profile (record { rest = c.filler_end.ensures.read; within = c.filler_end.ensures.within.1 }) (sym c.in-Fault.ensures.read)))
 
 pub returns-in-Fault-clause-whole : goal.returns-in-Fault-clause-whole
 returns-in-Fault-clause-whole c =
     let list = c.loop-code.list in
-    sym c.loop-code.invariant.whole ∙ found_whole list.kind list.depth _ (fault c.in-Fault.code) c.in-Fault.ensures.read ∙ wrong_whole c.in-Fault.code
+    sym c.loop-code.invariant.whole ∙ found_whole c.args.profile list.kind list.depth _ (fault c.in-Fault.code) c.in-Fault.ensures.read ∙ wrong_whole c.in-Fault.code
 
 pub returns-in-Some-clause-whole : goal.returns-in-Some-clause-whole
 returns-in-Some-clause-whole c =
@@ -37,9 +37,9 @@ returns-in-Some-clause-whole c =
     let t = c.in-Token.token in
     let more = drop t.span.to text in
     sym c.loop-code.invariant.whole
-    ∙ found_whole list.kind list.depth _ (found (meaning_in text t) more) c.in-Token.ensures.read
-    ∙ ap (λ (i : Instruction). is_whole (at_instruction list_at i t.modifiers more list.kind list.depth).0) (closing_is (instruction_in text t.kind) c.in-Some.mark (c.in-Some.ensures text)).0
-    ∙ c.end_of_list.ensures.whole more
+    ∙ found_whole c.args.profile list.kind list.depth _ (found (meaning_in text t) more) c.in-Token.ensures.read
+    ∙ ap (λ (i : Instruction). is_whole (at_instruction (list_at c.args.profile) i t.modifiers more list.kind list.depth).0) (closing_is (instruction_in text t.kind) c.in-Some.mark (c.in-Some.ensures text)).0
+    ∙ c.end_of_list.ensures.whole c.args.profile more
 
 pub loop-code-preserved-in-None-opened_kind : goal.loop-code-preserved-in-None-opened_kind
 loop-code-preserved-in-None-opened_kind c =
@@ -52,15 +52,15 @@ loop-code-preserved-in-None-opened_kind c =
     record {
       inside = c.in-Token.ensures.place.inside;
       few = c.loop-code.invariant.few;
-      comes = λ there b. c.loop-code.invariant.comes there (after_token (sym c.in-Token.ensures.read) opens closes b);
-      whole = sym (token_whole t.modifiers more list.kind list.depth (instruction_in text t.kind) opens closes)
-          ∙ sym (found_whole list.kind list.depth _ (found (meaning_in text t) more) c.in-Token.ensures.read) ∙ c.loop-code.invariant.whole;
+      comes = λ there b. c.loop-code.invariant.comes there (after_token c.args.profile (sym c.in-Token.ensures.read) opens closes b);
+      whole = sym (token_whole c.args.profile t.modifiers more list.kind list.depth (instruction_in text t.kind) opens closes)
+          ∙ sym (found_whole c.args.profile list.kind list.depth _ (found (meaning_in text t) more) c.in-Token.ensures.read) ∙ c.loop-code.invariant.whole;
     }
 
 pub returns-in-Some-opened_kind-clause-breaks : goal.returns-in-Some-opened_kind-clause-breaks
 returns-in-Some-opened_kind-clause-breaks c =
-    subst (λ (there : ListFault). Breaks c.args.text.now c.args.list c.args.at there) (sym c.fault_at-in-Some-opened_kind.ensures)
-    (c.loop-code.invariant.comes _ (too_deep c.in-Some-opened_kind.field-0 (token_here c.args.text.now c.loop-code.next c.in-Token.token c.in-Token.ensures.place)
+    subst (λ (there : ListFault). Breaks c.args.profile c.args.text.now c.args.list c.args.at there) (sym c.fault_at-in-Some-opened_kind.ensures)
+    (c.loop-code.invariant.comes _ (too_deep c.args.profile c.in-Some-opened_kind.field-0 (token_here c.args.text.now c.loop-code.next c.in-Token.token c.in-Token.ensures.place)
     (sym c.in-Token.ensures.read) (sym (c.in-Some-opened_kind.ensures c.args.text.now)) c.if-list-eq-BLOCK_LIMIT.true))
 
 pub returns-in-Some-opened_kind-clause-whole : goal.returns-in-Some-opened_kind-clause-whole
@@ -70,8 +70,8 @@ returns-in-Some-opened_kind-clause-whole c =
     let t = c.in-Token.token in
     let more = drop t.span.to text in
     sym c.loop-code.invariant.whole
-    ∙ found_whole list.kind list.depth _ (found (meaning_in text t) more) c.in-Token.ensures.read
-    ∙ deep_whole t.modifiers more list.kind list.depth c.in-Some-opened_kind.field-0 (instruction_in text t.kind) (sym (c.in-Some-opened_kind.ensures text)) c.if-list-eq-BLOCK_LIMIT.true
+    ∙ found_whole c.args.profile list.kind list.depth _ (found (meaning_in text t) more) c.in-Token.ensures.read
+    ∙ deep_whole c.args.profile t.modifiers more list.kind list.depth c.in-Some-opened_kind.field-0 (instruction_in text t.kind) (sym (c.in-Some-opened_kind.ensures text)) c.if-list-eq-BLOCK_LIMIT.true
 
 pub loop-code-preserved : goal.loop-code-preserved
 loop-code-preserved c =
@@ -85,5 +85,5 @@ loop-code-preserved c =
       few = c.past_block.ensures.few;
       comes = λ there b. c.loop-code.invariant.comes there (c.past_block.ensures.comes c.loop-code.next (meaning_in text t) there (sym c.in-Token.ensures.read) opens b);
       whole = sym (c.past_block.ensures.whole (instruction_in text t.kind) t.modifiers opens)
-          ∙ sym (found_whole list.kind list.depth _ (found (meaning_in text t) more) c.in-Token.ensures.read) ∙ c.loop-code.invariant.whole;
+          ∙ sym (found_whole c.args.profile list.kind list.depth _ (found (meaning_in text t) more) c.in-Token.ensures.read) ∙ c.loop-code.invariant.whole;
     }

@@ -11,8 +11,8 @@ abbrev pub invariant-loop-code : goal.invariant-loop-code
 invariant-loop-code l = record {
   inside : l.next ≤ length l.text;
   few : l.list.depth ≤ BLOCK_LIMIT;
-  comes : (there : ListFault) → Breaks l.text l.list l.next there → Breaks l.text l.fn.list l.fn.at there;
-  whole : is_whole (list_at l.list.kind l.list.depth (drop l.next l.text)).0 ≡ is_whole (list_at l.fn.list.kind l.fn.list.depth (drop l.fn.at l.text)).0;
+  comes : (there : ListFault) → Breaks l.profile l.text l.list l.next there → Breaks l.profile l.text l.fn.list l.fn.at there;
+  whole : is_whole (list_at l.profile l.list.kind l.list.depth (drop l.next l.text)).0 ≡ is_whole (list_at l.profile l.fn.list.kind l.fn.list.depth (drop l.fn.at l.text)).0;
 }
 
 abbrev pub decreases-loop-code : goal.decreases-loop-code

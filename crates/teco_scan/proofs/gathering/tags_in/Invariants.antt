@@ -9,8 +9,8 @@ use Rattle.teco_scan.proofs.gathering.tags_in.Given as goal
 abbrev pub invariant-gathering : goal.invariant-gathering
 invariant-gathering l = record {
   inside : l.next ≤ length l.text;
-  finds : (name : List ℕ) → first_of (tag_of l.text (place_of l.places name)) (tag_at name l.depth (drop l.next l.text))
-      ≡ tag_at name l.depth (drop l.fn.block_start l.text);
+  finds : (name : List ℕ) → first_of (tag_of l.text (place_of l.places name)) (tag_at l.profile name l.depth (drop l.next l.text))
+      ≡ tag_at l.profile name l.depth (drop l.fn.block_start l.text);
   within : (name : List ℕ) → IfSome (place_of l.places name) (λ to. to ≤ length l.text);
 }
 

@@ -1,17 +1,9 @@
 use Rattle.std.proofs.Common.{drop, ◌+◌, ap, ◌∙◌, refl}
-use Rattle.teco_scan.specs.declared.profile.Profile.TheVariants.{Named}
 use Rattle.teco_scan.specs.Seen.{found_in}
-use Rattle.teco_scan.proofs.Places.{scan_named}
 use Rattle.teco_scan.proofs.FirstRow.{led_read, tag_read}
 use Rattle.teco_scan.proofs.leads.tag_token.Goals as goal
 
-pub returns-in-Ok-clause-each : goal.returns-in-Ok-clause-each
-returns-in-Ok-clause-each c p =
+pub returns-in-Ok-clause-read : goal.returns-in-Ok-clause-read
+returns-in-Ok-clause-read c p =
     ap (found_in c.args.text.now) c.plain.ensures
     ∙ led_read p c.args.text.now c.args.at c.args.from _ _ c.requires (tag_read _ (drop (c.args.from + 1) c.args.text.now) _ refl c.in-Ok.ensures.read)
-
-pub returns-in-Ok-clause-read : goal.returns-in-Ok-clause-read
-returns-in-Ok-clause-read c =
-    ap (found_in c.args.text.now) c.plain.ensures
-    ∙ led_read Named c.args.text.now c.args.at c.args.from _ _ c.requires (tag_read _ (drop (c.args.from + 1) c.args.text.now) _ refl c.in-Ok.ensures.read)
-    ∙ scan_named _

@@ -1,5 +1,5 @@
 use Rattle.std.proofs.Common.{refl, arith}
-use Rattle.teco_scan.specs.declared.profile.Profile.TheVariants.{Named}
+use Rattle.teco_core.specs.declared.profile.Profile.TheVariants.{Named}
 use Rattle.teco_scan.proofs.FirstRow.{lone_named}
 use Rattle.teco_scan.proofs.Wider.{lone_kept}
 use Rattle.teco_scan.proofs.names.lone_form.Goals as goal

@@ -1,7 +1,7 @@
 use Rattle.teco_step.proofs.Ends.{leave_is_inside, go_names, calls_by_calls, goes_further_if_it_may, value_goes_on}
 use Rattle.teco_step.proofs.Errors.{errors_leave}
 use Rattle.teco_step.proofs.Exits.{only_exits}
-use Rattle.teco_step.proofs.Loads.{changes_or_types, load_moves}
+use Rattle.teco_step.proofs.Loads.{changes_or_types, load_moves, profile_stays}
 use Rattle.teco_step.proofs.laws.effect_laws.Goals as goal
 
 pub returns : goal.returns
@@ -18,4 +18,5 @@ returns c =
       errors = errors_leave;
       apart = changes_or_types found.long found.forward found.backward spelled;
       load = load_moves found.long found.forward found.backward spelled;
+      profile = profile_stays found.long found.forward found.backward spelled;
     }

@@ -4,7 +4,7 @@ use crate::tests::commands::COMMANDS;
 use crate::tests::rows::{Rule, all_hold, cells_of};
 use std::alloc::Global;
 use std::test::*;
-use teco_core::Code;
+use teco_core::{Code, Profile};
 use teco_scan::{Found, token_at};
 
 /// The modifiers that are tried before each command, and how a row has them.
@@ -13,7 +13,7 @@ static MODIFIERS: [(&str, &str); 4] = [(":", "[:]"), ("::", "[::]"), ("@", "[@]"
 /// Whether a text begins with a token where that is wanted, and else is ILL.
 fn is_read(alloc: Global, modifiers: &str, command: &str, wanted: bool) -> bool {
     let text = joined(alloc, &[modifiers.as_bytes(), command.as_bytes()]);
-    match token_at(&text, 0) {
+    match token_at(Profile::Named, &text, 0) {
         Found::Token(_) => wanted,
         Found::Fault(Code::Ill) => !wanted,
         _ => false,

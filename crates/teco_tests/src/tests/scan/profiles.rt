@@ -3,11 +3,12 @@ use crate::tests::bytes::are;
 use crate::tests::rows::{Rule, all_hold, cells_of, number_or};
 use std::alloc::Global;
 use std::test::*;
-use teco_scan::{Found, Profile, token_in};
+use teco_core::Profile;
+use teco_scan::{Found, token_at};
 
 /// Whether a text begins with a token that ends at a place, or is a fault.
 fn finds(profile: Profile, text: &str, wanted: &str) -> bool {
-    match token_in(profile, text.as_bytes(), 0) {
+    match token_at(profile, text.as_bytes(), 0) {
         Found::Token(token) => token.span.to as u64 == number_or(wanted, 0),
         Found::Fault(code) => are(&code.letters(), wanted.as_bytes()),
         Found::End => false,

@@ -7,7 +7,7 @@ use crate::tests::exec::strings::bytes_of;
 use crate::tests::rows::{Rule, all_hold, cells_of};
 use std::alloc::Global;
 use std::test::*;
-use teco_core::{Args, FILE_LIMIT, Taken};
+use teco_core::{Args, FILE_LIMIT, Profile, Taken};
 use teco_exec::run;
 use teco_scan::{Found, Modifiers, Token, TokenKind, token_at};
 use teco_search::Endless;
@@ -26,7 +26,7 @@ fn step_at(
     if at > text.len() {
         return (Next::Out, at);
     }
-    let Found::Token(read) = token_at(text, at) else {
+    let Found::Token(read) = token_at(Profile::Named, text, at) else {
         return (Next::Out, at);
     };
     let span = read.span;

@@ -5,4 +5,4 @@ use Rattle.teco_exec.proofs.cursor.Cursor.begin.Goals as goal
 
 pub returns-clause-begins : goal.returns-clause-begins
 returns-clause-begins c =
-    ap (λ bs. record { args = arguments c.args.args; left = c.args.text.now; blocks = bs }) (frames_nil c.args.text.now c.new.ensures)
+    ap (λ bs. record { args = arguments c.args.args; left = c.args.text.bytes.now; blocks = bs }) (frames_nil c.args.text.bytes.now c.new.ensures)

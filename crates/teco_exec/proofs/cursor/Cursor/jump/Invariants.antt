@@ -12,7 +12,7 @@ invariant-jumping l = record {
   stays : Stays l.fn.self l.self;
   few : l.depth ≤ 64;
   open_blocks : l.depth ≤ length l.self.blocks;
-  same : machine.after_jump (bytes_in l.self.text.now l.name) l.self.text.now (frames l.self.text.now (outermost l.depth l.self.blocks)) (cursor l.self).args ≡ machine.after_jump (bytes_in l.fn.self.text.now l.name) l.fn.self.text.now (cursor l.fn.self).blocks (cursor l.fn.self).args;
+  same : machine.after_jump l.self.text.profile (bytes_in l.self.text.bytes.now l.name) l.self.text.bytes.now (frames l.self.text.bytes.now (outermost l.depth l.self.blocks)) (cursor l.self).args ≡ machine.after_jump l.fn.self.text.profile (bytes_in l.fn.self.text.bytes.now l.name) l.fn.self.text.bytes.now (cursor l.fn.self).blocks (cursor l.fn.self).args;
 }
 
 abbrev pub decreases-jumping : goal.decreases-jumping

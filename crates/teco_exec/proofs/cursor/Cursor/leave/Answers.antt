@@ -17,7 +17,7 @@ leaving-init c =
       few = omega (arith, c.len-depth.ensures.few, c.len-depth.ensures.value);
       open_blocks = omega (arith, c.len-depth.ensures.value);
       within = s.within;
-      same = ap (λ bs. after_leaving_iteration (frames s.text.now bs) (arguments s.args) (drop s.at s.text.now)) (outermost_all c.len-depth.result s.blocks c.len-depth.ensures.value);
+      same = ap (λ bs. after_leaving_iteration s.text.profile (frames s.text.bytes.now bs) (arguments s.args) (drop s.at s.text.bytes.now)) (outermost_all c.len-depth.result s.blocks c.len-depth.ensures.value);
     }
 
 pub skip_whole-requires-clause-few : goal.skip_whole-requires-clause-few
@@ -36,7 +36,7 @@ returns-in_err-at-clause-moves c =
     let size = sym (outermost_length c.leaving.depth s.blocks c.leaving.invariant.open_blocks) in
     let passed = passes_there s.same (Err c.in_err-at.field-0.0) c.kind-kind.result c.leaving.depth c.leaving.at c.in_err-at.ensures.passes in
     rw (p.1, p.2)
-    (leaves s.text.now (drop c.leaving.at s.text.now) (arguments s.args) c.kind-kind.result (Err c.in_err-at.field-0.0) c.get.ensures c.kind-kind.ensures size passed refl
+    (leaves s.text.profile s.text.bytes.now (drop c.leaving.at s.text.bytes.now) (arguments s.args) c.kind-kind.result (Err c.in_err-at.field-0.0) c.get.ensures c.kind-kind.ensures size passed refl
     ∙ c.leaving.invariant.same)
 
 pub returns-in_err-at-clause-stays : goal.returns-in_err-at-clause-stays
@@ -50,17 +50,17 @@ returns-in-Iter-clause-text c = c.leaving.invariant.text
 pub returns-in-Iter-clause-moves : goal.returns-in-Iter-clause-moves
 returns-in-Iter-clause-moves c =
     let s = c.leaving.self in
-    let more = drop c.in_ok-at.at s.text.now in
+    let more = drop c.in_ok-at.at s.text.bytes.now in
     let size = sym (outermost_length c.leaving.depth s.blocks c.leaving.invariant.open_blocks) in
     let passed = passes_there s.same (Ok c.in_ok-at.at) c.kind-kind.result c.leaving.depth c.leaving.at c.in_ok-at.ensures.passes in
-    ap (λ bs. Ok (record { args = arguments s.args; left = more; blocks = frames s.text.now bs })) c.truncate.ensures
-    ∙ leaves s.text.now (drop c.leaving.at s.text.now) (arguments s.args) c.kind-kind.result (Ok more) c.get.ensures c.kind-kind.ensures size passed c.in-Iter.is
+    ap (λ bs. Ok (record { args = arguments s.args; left = more; blocks = frames s.text.bytes.now bs })) c.truncate.ensures
+    ∙ leaves s.text.profile s.text.bytes.now (drop c.leaving.at s.text.bytes.now) (arguments s.args) c.kind-kind.result (Ok more) c.get.ensures c.kind-kind.ensures size passed c.in-Iter.is
     ∙ c.leaving.invariant.same
 
 pub leaving-preserved : goal.leaving-preserved
 leaving-preserved c =
     let s = c.leaving.self in
-    let more = drop c.in_ok-at.at s.text.now in
+    let more = drop c.in_ok-at.at s.text.bytes.now in
     let size = sym (outermost_length c.leaving.depth s.blocks c.leaving.invariant.open_blocks) in
     let passed = passes_there s.same (Ok c.in_ok-at.at) c.kind-kind.result c.leaving.depth c.leaving.at c.in_ok-at.ensures.passes in
     record {
@@ -69,7 +69,7 @@ leaving-preserved c =
       few = omega (arith, c.leaving.invariant.few);
       open_blocks = omega (arith, c.leaving.invariant.open_blocks);
       within = within_there s.same c.in_ok-at.at c.in_ok-at.ensures.within;
-      same = leaves_part s.text.now (drop c.leaving.at s.text.now) (arguments s.args) c.kind-kind.result (Ok more) c.get.ensures c.kind-kind.ensures size passed more refl c.in-Then.is
+      same = leaves_part s.text.profile s.text.bytes.now (drop c.leaving.at s.text.bytes.now) (arguments s.args) c.kind-kind.result (Ok more) c.get.ensures c.kind-kind.ensures size passed more refl c.in-Then.is
           ∙ c.leaving.invariant.same;
     }
 
@@ -81,7 +81,7 @@ returns-clause-moves c =
     let s = c.leaving.self in
     let zero_ : c.leaving.depth ≡ 0 = omega (arith, c.leaving-test.false) in
     let none : outermost c.leaving.depth s.blocks ≡ _ = ap (λ n. outermost n s.blocks) zero_ ∙ outermost_none s.blocks in
-    leaving_none s.text.now (arguments s.args) (drop c.leaving.at s.text.now) none ∙ c.leaving.invariant.same
+    leaving_none s.text.profile s.text.bytes.now (arguments s.args) (drop c.leaving.at s.text.bytes.now) none ∙ c.leaving.invariant.same
 
 pub returns-clause-stays : goal.returns-clause-stays
 returns-clause-stays c = c.leaving.invariant.stays

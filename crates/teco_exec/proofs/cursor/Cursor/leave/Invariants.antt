@@ -11,8 +11,8 @@ invariant-leaving l = record {
   stays : Stays l.fn.self l.self;
   few : l.depth ≤ 64;
   open_blocks : l.depth ≤ length l.self.blocks;
-  within : l.at ≤ length l.self.text.now;
-  same : machine.after_leaving_iteration (frames l.self.text.now (outermost l.depth l.self.blocks)) (cursor l.self).args (drop l.at l.self.text.now) ≡ machine.after_leaving_iteration (cursor l.fn.self).blocks (cursor l.fn.self).args (cursor l.fn.self).left;
+  within : l.at ≤ length l.self.text.bytes.now;
+  same : machine.after_leaving_iteration l.self.text.profile (frames l.self.text.bytes.now (outermost l.depth l.self.blocks)) (cursor l.self).args (drop l.at l.self.text.bytes.now) ≡ machine.after_leaving_iteration l.fn.self.text.profile (cursor l.fn.self).blocks (cursor l.fn.self).args (cursor l.fn.self).left;
 }
 
 abbrev pub decreases-leaving : goal.decreases-leaving

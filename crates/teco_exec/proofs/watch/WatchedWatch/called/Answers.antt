@@ -14,16 +14,16 @@ returns-else-is_err-clause-told c p known =
       record { rest = c.filler_end.ensures.read; within = c.filler_end.ensures.within.1 },
       (
         known.0,
-        λ memory. record { told = kept_call c.args.self.now.place c.push.new.self.items call (cursor at).blocks p (known.1 memory).told more (c.in-Ok.ensures ∙ sym (turns_same at.text.now at.blocks)); fault = (known.1 memory).fault },
+        λ memory. record { told = kept_call c.args.self.now.place c.push.new.self.items call (cursor at).blocks p (known.1 memory).told more (c.in-Ok.ensures ∙ sym (turns_same at.text.bytes.now at.blocks)); fault = (known.1 memory).fault },
       ),
     )
 
 pub returns-in-Err-clause-told : goal.returns-in-Err-clause-told
 returns-in-Err-clause-told c p known =
-    let h = has_place c.args.cursor.now.text.now c.args.at c.requires in
+    let h = has_place c.args.cursor.now.text.bytes.now c.args.at c.requires in
     (h.0, h.1, (known.0, λ memory. absurd (let no : true ≡ false = memory in cc)))
 
 pub returns-then-is_err-clause-told : goal.returns-then-is_err-clause-told
 returns-then-is_err-clause-told c p known =
-    let h = has_place c.args.cursor.now.text.now c.args.at c.requires in
+    let h = has_place c.args.cursor.now.text.bytes.now c.args.at c.requires in
     (h.0, h.1, (known.0, λ memory. absurd (let no : true ≡ false = memory in cc)))

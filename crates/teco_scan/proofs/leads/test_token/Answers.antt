@@ -1,7 +1,7 @@
 use Rattle.std.proofs.Common.{drop, ◌+◌, ap, ◌∙◌}
 use Rattle.teco_scan.specs.Seen.{found_in}
 use Rattle.teco_scan.proofs.FirstRow.{led_read, test_read}
-use Rattle.teco_scan.proofs.leads.test_token_in.Goals as goal
+use Rattle.teco_scan.proofs.leads.test_token.Goals as goal
 
 pub returns-in-Ok-clause-read : goal.returns-in-Ok-clause-read
 returns-in-Ok-clause-read c =

@@ -1,4 +1,4 @@
-//! The profiles.
+//! The profile of the language.
 
 /// What a text is read by: which commands there are, which modifiers each admits, and which bytes name a test.
 #[derive(Clone, Copy, Debug, PartialEq, Eq)]
