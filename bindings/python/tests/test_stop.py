@@ -193,15 +193,20 @@ class TestInterrupt(unittest.TestCase):
 
     def test_no_thread(self):
         """No thread is left when no string has run for a while, nor at once where the process is forked."""
+        self.wait_for_no_thread()
         session = Session()
         session.run(b"J")
-        end = time.monotonic() + 20
         self.assertEqual(self.threads(), 2)
+        self.wait_for_no_thread()
+        session.run(b"J")
+        self.assertEqual((in_child(lambda: self.threads() == 1), self.threads()), (True, 1))
+
+    def wait_for_no_thread(self):
+        """Waits until no other thread is left, of this test or of one before it."""
+        end = time.monotonic() + 20
         while self.threads() > 1 and time.monotonic() < end:
             time.sleep(0.01)
         self.assertEqual(self.threads(), 1)
-        session.run(b"J")
-        self.assertEqual((in_child(lambda: self.threads() == 1), self.threads()), (True, 1))
 
     def threads(self):
         return len(os.listdir("/proc/self/task"))
