@@ -106,6 +106,7 @@ static void opens(void)
     size_t too_many = (size_t)TECO_INPUT_LIMIT + 1;
     void *large = mmap(NULL, too_many, PROT_READ, MAP_PRIVATE | MAP_ANONYMOUS | MAP_NORESERVE, -1, 0);
     HOLDS(large != MAP_FAILED && teco_open(&t, large, too_many, 0, 0) == TECO_LARGE && t.at == NULL);
+    HOLDS(teco_open_wide(&t, large, too_many, 0, TECO_DEPTH_LIMIT + 1) == TECO_LARGE && t.at == NULL);
     munmap(large, too_many);
     HOLDS(teco_open(&t, bytes("old"), 3, 0, 2) == 0 && t.at != NULL);
     HOLDS(run(&t, "Y", 0) == 0);
@@ -225,12 +226,34 @@ static void breaks(void)
     teco_close(&t);
 }
 
+/* The wide language is that of the session, and a call of another language opens another session. */
+static void wide_sessions(void)
+{
+    struct teco t = {0};
+    HOLDS(teco_open_wide(&t, bytes(""), 0, 0, TECO_DEPTH_LIMIT + 1) == TECO_DEEP && t.at == NULL);
+    HOLDS(teco_open(&t, bytes(""), 0, 0, 0) == 0 && teco_is_wide(&t) == 0 && run(&t, "0\"=1='", 64) == TECO_IQC && has("") && stopped(1, 0));
+    HOLDS(teco_open_wide(&t, bytes(""), 0, 0, TECO_DEPTH_LIMIT + 1) == TECO_DEEP && teco_is_wide(&t) == 0);
+    HOLDS(teco_open_wide(&t, bytes("one\ntwo"), 7, 1, 2) == 0 && teco_is_wide(&t) == 1 && run(&t, "0\"=1='", 64) == 0 && has("1\r\n"));
+    HOLDS(run(&t, "Iab\033J:XA\033\033", 0) == 0 && run(&t, "ZJ:XAJ:XA", 0) == 0 && teco_register(&t, 'A', room, 64, &n) == 0 && has("abab"));
+    HOLDS(teco_undo(&t) == 0 && teco_register(&t, 'A', room, 64, &n) == 0 && has("ab") && teco_undo(&t) == 0 && teco_undo(&t) == TECO_NTU);
+    HOLDS(teco_is_wide(&t) == 1 && run(&t, "@^UA/0\"=2='/MA", 64) == 0 && has("2\r\n"));
+    HOLDS(run(&t, "HKY", 0) == 0 && teco_text(&t, 0, room, 64, &n) == 0 && has("one\n"));
+    HOLDS(teco_open(&t, bytes(""), 0, 0, 0) == 0 && teco_is_wide(&t) == 0);
+    teco_close(&t);
+}
+
 static struct teco_token seen;
 
 static uint8_t token(const char *text, size_t place)
 {
     seen = (struct teco_token){.from = 99, .to = 99, .kind = 99, .size = 99};
     return teco_token(bytes(text), strlen(text), place, &seen);
+}
+
+static uint8_t token_wide(const char *text, size_t place)
+{
+    seen = (struct teco_token){.from = 99, .to = 99, .kind = 99, .size = 99};
+    return teco_token_wide(bytes(text), strlen(text), place, &seen);
 }
 
 /* Whether a token was read between two places, with a text of so many bytes. */
@@ -267,6 +290,10 @@ static void tokens(void)
     HOLDS(token("JW", 1) == TECO_ILL && read_there(1, 2, 0, 0));
     HOLDS(token("Q!", 0) == TECO_IQN && read_there(0, 2, 0, 0));
     HOLDS(token("\"x", 0) == TECO_IQC && read_there(0, 2, 0, 0));
+    HOLDS(token("\"=J'", 0) == TECO_IQC && read_there(0, 4, 0, 0) && token_wide("\"=J'", 0) == 0 && read_there(0, 2, TECO_TOKEN_TEST, 0));
+    HOLDS(token(" :XAJ", 0) == TECO_ILL && read_there(1, 5, 0, 0) && token_wide(" :XAJ", 0) == 0 && read_there(1, 4, TECO_TOKEN_REGISTER, 0));
+    HOLDS(token_wide("Iab\033J", 0) == 0 && read_there(0, 4, TECO_TOKEN_TEXT, 2) && token_wide("12A", SIZE_MAX) == TECO_NO_TOKEN);
+    HOLDS(token_wide("  Iab", 0) == TECO_UTC && read_there(2, 5, 0, 0) && token_wide("JW", 1) == TECO_ILL && token_wide("\"x", 0) == TECO_IQC);
 }
 
 /* Whether a source is answered so, and has told this line and column; and whether it stands for these bytes. */
@@ -436,7 +463,7 @@ static void closed(void)
     HOLDS((one = 1, teco_pushed(&t, &one)) == TECO_CLOSED && one == 0);
     HOLDS((one = 1, teco_place(&t, &one)) == TECO_CLOSED && one == 0);
     HOLDS(teco_done(&t) == TECO_CLOSED && teco_found(&t) == TECO_CLOSED);
-    HOLDS(teco_form_feed(&t) == TECO_CLOSED && teco_either_case(&t) == TECO_CLOSED);
+    HOLDS(teco_form_feed(&t) == TECO_CLOSED && teco_either_case(&t) == TECO_CLOSED && teco_is_wide(&t) == TECO_CLOSED);
     HOLDS(room[0] == '.' && memcmp(room, room + 1, sizeof room - 1) == 0 && t.at == NULL);
 }
 
@@ -453,7 +480,8 @@ static int told(const struct teco *t)
         + (teco_text(t, 0, room, 64, &n) == 0) + (teco_output(t, 0, room, 64, &n) == 0) + (teco_number(t, 'A', &number) == 0)
         + (teco_register(t, 'A', room, 64, &n) == 0) + (teco_search(t, room, 64, &n) == 0) + (teco_pushed(t, &n) == 0)
         + (teco_place(t, &n) == 0) + (teco_lines(t, 0, 9, &n) == 0) + (teco_input(t, 0, room, 64, &n) == 0)
-        + (teco_done(t) <= 1) + (teco_found(t) <= 1) + (teco_form_feed(t) <= 1) + (teco_either_case(t) <= 1);
+        + (teco_done(t) <= 1) + (teco_found(t) <= 1) + (teco_form_feed(t) <= 1) + (teco_either_case(t) <= 1)
+        + (teco_is_wide(t) <= 1);
 }
 
 /* No call but an open and a close writes the handle: each other one at a handle in memory that can't be written, closed and open. */
@@ -464,7 +492,7 @@ static void unwritten(void)
     HOLDS(teco_undo(t) == TECO_CLOSED && teco_redo(t) == TECO_CLOSED && teco_rewind(t, 0) == TECO_CLOSED && teco_forget(t) == TECO_CLOSED);
     HOLDS(mprotect(t, sizeof *t, PROT_READ | PROT_WRITE) == 0 && teco_open(t, bytes("one"), 3, 0, 0) == 0);
     HOLDS(mprotect(t, sizeof *t, PROT_READ) == 0);
-    HOLDS(run(t, "YSe\033I.\033", 64) == 0 && told(t) == 22);
+    HOLDS(run(t, "YSe\033I.\033", 64) == 0 && told(t) == 23);
     HOLDS(teco_undo(t) == 0 && teco_redo(t) == 0 && teco_rewind(t, 1) == 0 && teco_undo(t) == 0 && teco_forget(t) == 0);
     HOLDS(run(t, "J9J", 64) == 20 && stopped(2, 0));
     HOLDS(frames(t, "@^UA/9J/MA", 3, &(struct teco_stopper){0}) == 20 && stopped_inside(1, 1) && is_called(0, 8, 'A'));
@@ -608,6 +636,24 @@ static void pages_of_lines_are_kept(void)
     teco_close(&again);
 }
 
+/* A session in the wide language says so in its head, and is opened again in it. */
+static void the_wide_language_is_kept(void)
+{
+    static const char FRONT[] = "teco session 1 wide\n";
+    struct teco t = {0}, again = {0};
+    struct teco_resumed resumed;
+    HOLDS(keep_head_of("one\ntwo", 1, 3) == 0 && memcmp(file.at, "teco session 1\n", 15) == 0);
+    HOLDS(teco_head_wide(bytes("one\ntwo"), 7, 1, 3, &file.line) == 0 && memcmp(file.at, FRONT, sizeof FRONT - 1) == 0);
+    file.count = file.line.made;
+    HOLDS(teco_open_wide(&t, bytes("one\ntwo"), 7, 1, 3) == 0 && run_kept(&t, "Y0\"=:XQ'") == 0 && run_kept(&t, "J:XQ:W") == TECO_ILL);
+    HOLDS(teco_resume(&again, file.at, file.count, &resumed) == 0 && teco_is_wide(&again) == 1 && are_alike(&t, &again));
+    HOLDS(resumed.records == 2 && resumed.lines == 1 && resumed.ending == TECO_WHOLE && memcmp(resumed.check, file.line.check, 16) == 0);
+    HOLDS(teco_register(&again, 'Q', room, 64, &n) == 0 && has("one\none\n") && run(&again, "0\"=1='", 64) == 0 && has("1\r\n"));
+    HOLDS(keep_head("", 0) == 0 && teco_resume(&again, file.at, file.count, &resumed) == 0 && teco_is_wide(&again) == 0);
+    teco_close(&t);
+    teco_close(&again);
+}
+
 /* Whether the file is refused so, and the handle and what is told stay. */
 static int is_refused(struct teco *t, size_t count, uint8_t code)
 {
@@ -665,6 +711,7 @@ int main(void)
 {
     a_session_is_kept_and_opened_again();
     pages_of_lines_are_kept();
+    the_wide_language_is_kept();
     a_file_ends_anywhere_and_is_changed_anywhere();
     a_line_that_does_not_fit_is_not_copied();
     opens();
@@ -673,6 +720,7 @@ int main(void)
     stops();
     breaks();
     open_calls();
+    wide_sessions();
     tokens();
     sources();
     turns();

@@ -71,6 +71,8 @@ static void turn(struct teco *t, long nth, int i)
     begin(1, LONG_MAX);
     int undone = teco_undo(t), redone = undone == 0 ? teco_redo(t) : 0;
     teco_token((const uint8_t *)strings[i], strlen(strings[i]), 0, &token);
+    teco_token_wide((const uint8_t *)strings[i], strlen(strings[i]), 0, &token);
+    (void)teco_is_wide(t);
     teco_lines(t, 0, SIZE_MAX, &n);
     teco_text(t, 0, room, sizeof room, &n);
     teco_string(t, 0, room, sizeof room, &n);

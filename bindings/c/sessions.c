@@ -93,7 +93,8 @@ static uint64_t state_of(const struct teco *t)
         add(&sum, &n[0], sizeof n[0]);
         add(&sum, room, n[0]);
     }
-    uint8_t flags[5] = {teco_done(t), teco_found(t), teco_form_feed(t), teco_either_case(t), teco_search(t, room, sizeof room, &n[0])};
+    uint8_t found = teco_search(t, room, sizeof room, &n[0]);
+    uint8_t flags[6] = {teco_done(t), teco_found(t), teco_form_feed(t), teco_either_case(t), teco_is_wide(t), found};
     add(&sum, room, n[0]);
     (void)teco_pointer(t, &n[0]);
     (void)teco_pushed(t, &n[1]);
@@ -234,7 +235,7 @@ static void request(struct life *life)
     }
 }
 
-/* Begins a session over a text of some pages, with the head of its file. */
+/* Begins a session over a text of some pages, in one language or the other, with the head of its file. */
 static void begin_life(struct life *life, unsigned long seed)
 {
     static const char *const inputs[] = {"", "one two\nthree e\n\ftwo pages\none\n\fthree\n", "no end", "a\n\f\fb\n"};
@@ -243,7 +244,11 @@ static void begin_life(struct life *life, unsigned long seed)
     life->seed = seed;
     life->size = life->records = 0;
     life->line = (struct teco_line){.room = life->file, .room_size = MOST_FILE};
-    if (teco_open(&life->t, (const uint8_t *)input, n, lines, depth) != 0 || teco_head((const uint8_t *)input, n, lines, depth, &life->line) != 0)
+    uint8_t is_wide = roll(2) == 0;
+    uint8_t (*opens)(struct teco *, const uint8_t *, size_t, size_t, size_t) = is_wide ? teco_open_wide : teco_open;
+    uint8_t (*heads)(const uint8_t *, size_t, size_t, size_t, struct teco_line *) = is_wide ? teco_head_wide : teco_head;
+    if (opens(&life->t, (const uint8_t *)input, n, lines, depth) != 0 || teco_is_wide(&life->t) != is_wide
+        || heads((const uint8_t *)input, n, lines, depth, &life->line) != 0)
         wrong(life, "a session is refused", 0);
     life->head = life->ends[0] = life->size = life->line.made;
     life->told[0] = history_of(&life->t);

@@ -28,8 +28,8 @@
  *
  * ANSWERS
  *   0 is success. 1 to 32 are the numbers of the codes by which a command string, or a call, ends; those that a call itself can lead
- *   to have their names below. The four calls at the end answer 1 and 0 for yes and no. Each other call that answers something else
- *   than 0 has changed nothing, told 0 and copied nothing. Only teco_run, teco_token and teco_source say otherwise.
+ *   to have their names below. The five calls at the end answer 1 and 0 for yes and no. Each other call that answers something else
+ *   than 0 has changed nothing, told 0 and copied nothing. Only teco_run, teco_token, teco_token_wide and teco_source say otherwise.
  *
  * THREADS AND SIGNALS
  *   The handle of a session stays on the thread that opened it. Different sessions share nothing, and may be in calls at the same time on
@@ -141,6 +141,13 @@ enum {
  */
 uint8_t teco_open(struct teco *t, const uint8_t *input, size_t n, size_t lines, size_t depth);
 
+/*
+ * The same, of a session in the wide language, that of `teco --wide`, which reads old macros: its command strings are read in it, and so are
+ * the texts of registers that they run. A session stays in its language. The answers, what they leave and what is freed are those of
+ * teco_open.
+ */
+uint8_t teco_open_wide(struct teco *t, const uint8_t *input, size_t n, size_t lines, size_t depth);
+
 /* Gives back all memory of the session, and leaves the handle closed and all zero. */
 void teco_close(struct teco *t);
 
@@ -251,10 +258,13 @@ struct teco_line {
 };
 
 /*
- * The head of the file of a session that is opened over this input of n bytes, with these lines and this depth: 0 or TECO_MEM. It has the
- * input, and some hundred bytes beside.
+ * The head of the file of a session that teco_open opens over this input of n bytes, with these lines and this depth: 0 or TECO_MEM. It has
+ * the input, and some hundred bytes beside.
  */
 uint8_t teco_head(const uint8_t *input, size_t n, size_t lines, size_t depth, struct teco_line *line);
+
+/* The same, of a session that teco_open_wide opens: the head says so. */
+uint8_t teco_head_wide(const uint8_t *input, size_t n, size_t lines, size_t depth, struct teco_line *line);
 
 /*
  * The line of what a request did: 0, TECO_OUTSIDE where nothing has the number of its kind, or TECO_MEM. Of TECO_RAN the text of n bytes is
@@ -279,10 +289,10 @@ enum {
 };
 
 /*
- * Opens the session that n bytes of its file tell, up to where the reading of its lines ends: 0, TECO_TORN_HEAD, TECO_CHANGED_HEAD,
- * TECO_OTHERWISE, TECO_LARGE, TECO_DEEP or TECO_MEM. Where it isn't 0, the handle and what is told stay as they were; where it is 0, a session
- * that was open in the handle is freed. Its strings are run again, each to the step that it was kept with, and nothing of what they type is
- * told.
+ * Opens the session that n bytes of its file tell, in its language, up to where the reading of its lines ends: 0, TECO_TORN_HEAD,
+ * TECO_CHANGED_HEAD, TECO_OTHERWISE, TECO_LARGE, TECO_DEEP or TECO_MEM. Where it isn't 0, the handle and what is told stay as they were; where
+ * it is 0, a session that was open in the handle is freed. Its strings are run again, each to the step that it was kept with, and nothing of
+ * what they type is told.
  */
 uint8_t teco_resume(struct teco *t, const uint8_t *bytes, size_t n, struct teco_resumed *resumed);
 
@@ -300,6 +310,9 @@ struct teco_token {
  * read. Then `from` is the place after the fillers, `to` is n, and `kind` and `size` are 0. Asks for no memory.
  */
 uint8_t teco_token(const uint8_t *text, size_t n, size_t at, struct teco_token *token);
+
+/* The same in the wide language, with the answers of teco_token: what a session of teco_open_wide reads there. Asks for no memory. */
+uint8_t teco_token_wide(const uint8_t *text, size_t n, size_t at, struct teco_token *token);
 
 /* What is told of a source. */
 struct teco_source {
@@ -376,7 +389,7 @@ uint8_t teco_pointer(const struct teco *t, size_t *pointer);
 uint8_t teco_text(const struct teco *t, size_t from, uint8_t *room, size_t size, size_t *length);
 uint8_t teco_output(const struct teco *t, size_t from, uint8_t *room, size_t size, size_t *length);
 
-/* The input from a place on, as it was given to teco_open. Past its end there is nothing, of length 0. */
+/* The input from a place on, as it was given when the session was opened. Past its end there is nothing, of length 0. */
 uint8_t teco_input(const struct teco *t, size_t from, uint8_t *room, size_t size, size_t *length);
 
 /* How many line ends, LF, VT and FF, the text of the buffer has between two places. It takes the time of the way between them. */
@@ -395,12 +408,13 @@ uint8_t teco_place(const struct teco *t, size_t *place);
 
 /*
  * 1 where it is so, 0 where it isn't: an exit has ended the session; the last search found; a form feed ended the page; searches find
- * a letter in either case.
+ * a letter in either case; the session is in the wide language.
  */
 uint8_t teco_done(const struct teco *t);
 uint8_t teco_found(const struct teco *t);
 uint8_t teco_form_feed(const struct teco *t);
 uint8_t teco_either_case(const struct teco *t);
+uint8_t teco_is_wide(const struct teco *t);
 
 #ifdef __cplusplus
 }

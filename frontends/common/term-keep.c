@@ -188,14 +188,15 @@ static void write_line(struct keeper *keeper, bool is_made)
         fail(keeper, errno);
 }
 
-void keep_begin(struct keeper *keeper, const uint8_t *input, size_t n, size_t lines, size_t depth)
+void keep_begin(struct keeper *keeper, bool is_wide, const uint8_t *input, size_t n, size_t lines, size_t depth)
 {
+    uint8_t (*head)(const uint8_t *, size_t, size_t, size_t, struct teco_line *) = is_wide ? teco_head_wide : teco_head;
     if (!is_kept(keeper))
         return;
     if (ftruncate(keeper->file, 0) != 0)
         fail(keeper, errno);
     else
-        write_line(keeper, find_room(keeper, n + MORE) && teco_head(input, n, lines, depth, &keeper->line) == 0);
+        write_line(keeper, find_room(keeper, n + MORE) && head(input, n, lines, depth, &keeper->line) == 0);
     bytes_free(&keeper->room);
 }
 

@@ -13,13 +13,14 @@ static enum fate begin(struct work *work)
 {
     struct bytes *input = work->is_saved ? &work->saved : &work->input;
     size_t lines = (size_t)work->options->lines, depth = (size_t)work->options->depth;
-    if (teco_open(&work->session, bytes_of(input), input->count, lines, depth) != 0)
+    bool is_wide = work->options->wide;
+    if ((is_wide ? teco_open_wide : teco_open)(&work->session, bytes_of(input), input->count, lines, depth) != 0)
         return NO_MEMORY;
     work->size = input->count;
     work->lines = work->options->lines;
     work->is_left = work->is_saved = false;
     work->verified = 0;
-    keep_begin(&work->keeper, bytes_of(input), input->count, lines, depth);
+    keep_begin(&work->keeper, is_wide, bytes_of(input), input->count, lines, depth);
     keep_want(&work->keeper, false);
     bytes_free(input);
     return GOES_ON;

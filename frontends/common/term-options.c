@@ -22,7 +22,7 @@ static bool read_line(const struct program *program, int count, char **words, st
     static const struct option KNOWN[] = {{"limit", required_argument, NULL, 'l'}, {"output", required_argument, NULL, 'o'},
         {"in-place", no_argument, NULL, 'i'}, {"file", required_argument, NULL, 'f'}, {"page-lines", required_argument, NULL, 'p'},
         {"undo", required_argument, NULL, 'u'}, {"help", no_argument, NULL, 'h'}, {"version", no_argument, NULL, 'V'},
-        {"steps", no_argument, NULL, 's'}, {0}};
+        {"steps", no_argument, NULL, 's'}, {"wide", no_argument, NULL, 'w'}, {0}};
     bool is_good = true;
     int option;
     while (is_good && (option = getopt_long(count, words, "o:f:ihV", KNOWN, NULL)) != -1) {
@@ -36,6 +36,7 @@ static bool read_line(const struct program *program, int count, char **words, st
         case 'i': options->in_place = true; break;
         case 'p': is_good = read_number(optarg, 1, MOST_LINES, &options->lines); break;
         case 'u': is_good = read_number(optarg, 1, TECO_DEPTH_LIMIT, &options->depth); break;
+        case 'w': options->wide = true; break;
         case 's': options->steps = is_good = program->has_steps; break;
         case 'h': options->help = true; break;
         case 'V': options->version = true; break;

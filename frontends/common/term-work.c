@@ -201,6 +201,11 @@ static bool is_of_base(struct work *work, look *call, size_t from, size_t *at)
     return true;
 }
 
+token_reader *work_reader(const struct work *work)
+{
+    return teco_is_wide(&work->session) == 1 ? teco_token_wide : teco_token;
+}
+
 /* EX writes the output, the buffer with its form feed, and what of INPUT isn't read. Of the output no more is compared than what came
    since it was compared before: a string adds to it, and an undo takes away. Of what isn't read no more is compared than was read when
    that was saved. */

@@ -65,7 +65,7 @@ struct options {
     int count;
     const char *input, *output; /* the output's name may be none: INPUT.out then, or INPUT where that isn't there yet */
     uint64_t limit, depth, lines; /* of a page, or 0 for any number */
-    bool in_place, steps, help, version;
+    bool in_place, wide, steps, help, version;
     const char **files;        /* so many files of sources, */
     int file_count;
     struct bytes strings;      /* and the bytes that they stand for, one after another */
@@ -182,7 +182,7 @@ void keep_open(struct keeper *keeper, const char *input, bool is_beside);
 enum fate keep_read(const struct keeper *keeper, struct bytes *to, time_t *when);
 
 /* Begins the file anew over n bytes of INPUT, or goes on behind what was read of it. */
-void keep_begin(struct keeper *keeper, const uint8_t *input, size_t n, size_t lines, size_t depth);
+void keep_begin(struct keeper *keeper, bool is_wide, const uint8_t *input, size_t n, size_t lines, size_t depth);
 void keep_go_on(struct keeper *keeper, const struct teco_resumed *resumed);
 
 /* Adds the line of a request. Before its answer is shown, keep_sync waits until all lines outlast a crash of the machine. Where one can't be
@@ -267,6 +267,10 @@ struct work {
 /* Reads INPUT and opens a session over it. GOES_ON, NO_INPUT, LARGE_INPUT or NO_MEMORY. work_close frees it, whatever this came to, and
    takes the file of the session away where the program has ended so that nothing is lost. */
 enum fate work_open(struct work *work, const struct options *options);
+
+/* What reads a token of a command string of the session: teco_token, or teco_token_wide. */
+typedef uint8_t token_reader(const uint8_t *text, size_t n, size_t at, struct teco_token *token);
+token_reader *work_reader(const struct work *work);
 void work_close(struct work *work, enum fate fate);
 
 /* Opens a session over INPUT, or one that was left; and asks at the terminal whether to go on with that. GOES_ON, NO_MEMORY, TERMINAL_GONE,

@@ -80,9 +80,10 @@ static size_t token_of_help(const struct screen *screen, const uint8_t *text, si
     const struct view *view = screen_view(screen);
     if (screen->is_stepping && view->told.at < n)
         return view->told.at;
+    token_reader *reader = work_reader(&screen->work);
     size_t last = n;
     for (size_t at = 0; at < n;) {
-        struct token token = token_at(text, n, at);
+        struct token token = token_at(reader, text, n, at);
         if (token.kind != BLANK || text[at] == ESCAPE)
             last = at;
         at = token.to;

@@ -6,11 +6,11 @@
 /* The most bytes of a window that are searched, and the most steps that it may take. A cell has at most so many bytes of them. */
 enum { SEARCHED = 1 << 15, STEPS = 1 << 17, BYTES_OF_CELL = 4 };
 
-const uint8_t *search_text(const uint8_t *text, size_t n, size_t at, size_t *size)
+const uint8_t *search_text(token_reader *reader, const uint8_t *text, size_t n, size_t at, size_t *size)
 {
     struct teco_token token;
     *size = 0;
-    if (teco_token(text, n, at, &token) != 0 || token.to != n || token.kind != TECO_TOKEN_TEXT)
+    if (reader(text, n, at, &token) != 0 || token.to != n || token.kind != TECO_TOKEN_TEXT)
         return text;
     for (at = token.from; text[at] == ':' || text[at] == '@'; at++)
         continue;

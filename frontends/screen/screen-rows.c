@@ -97,7 +97,7 @@ void draw_line(const struct screen *screen, int top, int rows)
         (void)mvaddnstr(top, 0, screen->is_naming ? NAME : "*", COLS);
     while (at < n && walk.row < first + (size_t)rows) {
         if (at >= token.to && !screen->is_naming)
-            token = token_at(text, n, at);
+            token = token_at(work_reader(&screen->work), text, n, at);
         if (is_here(screen, at) && !screen->is_naming)
             marked = token.to;
         struct glyph glyph = glyph_at(text, n, at, cursor, walk.column);

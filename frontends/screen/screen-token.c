@@ -3,16 +3,16 @@
 #include <string.h>
 
 /* How many bytes of a fault there are: the least that are one. */
-static size_t fault_size(const uint8_t *text, size_t n)
+static size_t fault_size(token_reader *reader, const uint8_t *text, size_t n)
 {
     size_t count = 1;
     struct teco_token token;
-    while (count < n && teco_token(text, count, 0, &token) == CODE_UTC)
+    while (count < n && reader(text, count, 0, &token) == CODE_UTC)
         count++;
     return count;
 }
 
-struct token token_at(const uint8_t *text, size_t n, size_t at)
+struct token token_at(token_reader *reader, const uint8_t *text, size_t n, size_t at)
 {
     static const enum kind OF[] = {[TECO_TOKEN_DIGITS] = NUMBER, [TECO_TOKEN_VALUE] = VALUE, [TECO_TOKEN_ARITHMETIC] = VALUE,
         [TECO_TOKEN_LEVEL] = VALUE, [TECO_TOKEN_COMMAND] = COMMAND, [TECO_TOKEN_REGISTER] = COMMAND, [TECO_TOKEN_BYTE] = VALUE,
@@ -20,7 +20,7 @@ struct token token_at(const uint8_t *text, size_t n, size_t at)
         [TECO_TOKEN_REPLACE] = TEXT_COMMAND, [TECO_TOKEN_MARK] = BLOCK, [TECO_TOKEN_TEST] = BLOCK, [TECO_TOKEN_TAG] = TEXT_COMMAND,
         [TECO_TOKEN_ESCAPE] = BLANK};
     struct teco_token told;
-    uint8_t answer = teco_token(text, n, at, &told);
+    uint8_t answer = reader(text, n, at, &told);
     if (told.from > at)
         return (struct token){.kind = BLANK, .from = at, .to = told.from};
     struct token token = {.kind = BLANK, .from = told.from, .to = told.to};
@@ -29,6 +29,6 @@ struct token token_at(const uint8_t *text, size_t n, size_t at)
     else if (answer == CODE_UTC)
         token.kind = CUT;
     else if (answer != TECO_NO_TOKEN)
-        token = (struct token){.kind = BAD, .from = at, .to = at + fault_size(text + at, n - at)};
+        token = (struct token){.kind = BAD, .from = at, .to = at + fault_size(reader, text + at, n - at)};
     return token;
 }

@@ -44,11 +44,12 @@ static void run_open(struct work *work, const uint8_t *text, size_t n, uint64_t 
     struct told *told = &view.told;
     if (told->code != CODE_UTC || told->calls > 0 || told->at >= n)
         return;
-    struct closing closing = close_text(text, n, told->at, closed);
+    token_reader *reader = work_reader(work);
+    struct closing closing = close_text(reader, text, n, told->at, closed);
     if (closing.closed == 0 && closing.left_out == TECO_NOWHERE)
         return;
     (void)teco_undo(&work->session);
-    search.text = search_text(closed, closing.n, told->at, &search.n);
+    search.text = search_text(reader, closed, closing.n, told->at, &search.n);
     run(work, closed, closing.n, limit);
     view.closed = closing.closed;
     view.is_search_alone = closing.left_out != TECO_NOWHERE;

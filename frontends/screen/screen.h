@@ -103,7 +103,7 @@ struct token {
 };
 
 /* The token at a place, whatever it is; its end is behind its beginning. */
-struct token token_at(const uint8_t *text, size_t n, size_t from);
+struct token token_at(token_reader *reader, const uint8_t *text, size_t n, size_t from);
 
 /* What is run while a string is typed whose end is reached inside the command at `open_at`: n bytes in `to`, which has room for two more
    than the string has. */
@@ -111,7 +111,7 @@ struct closing {
     size_t n, closed;
     size_t left_out;         /* the place of the byte that was left out, or TECO_NOWHERE */
 };
-struct closing close_text(const uint8_t *text, size_t n, size_t open_at, uint8_t *to);
+struct closing close_text(token_reader *reader, const uint8_t *text, size_t n, size_t open_at, uint8_t *to);
 
 /* LOOKS */
 
@@ -166,7 +166,7 @@ struct same mark_changes(const struct teco *t, struct view *view);
 size_t change_beyond(const struct teco *t, size_t length, size_t edge, enum seeks seeks);
 
 /* The text of the search whose token begins at a place and is the last one of a string: where it is, and its size, or 0 where it is none. */
-const uint8_t *search_text(const uint8_t *text, size_t n, size_t at, size_t *size);
+const uint8_t *search_text(token_reader *reader, const uint8_t *text, size_t n, size_t at, size_t *size);
 
 /* Marks what a search for a text finds in the window. */
 void mark_hits(struct view *view, const struct window *window, const uint8_t *text, size_t n, bool is_either_case);

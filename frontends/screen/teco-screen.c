@@ -1,7 +1,7 @@
 /*
  * teco-screen - TECO on a full screen, where a command string shows what it does while it is typed
  *
- *   teco-screen [-f FILE].. [-i | -o FILE] [--page-lines N] [--limit N] [--undo N] INPUT..
+ *   teco-screen [-f FILE].. [-i | -o FILE] [--page-lines N] [--limit N] [--undo N] [--wide] INPUT..
  *
  * docs/TERMINAL.md tells of the rule and the keys. A string is tried in a copy of the process; nothing here changes the text of the session
  * but through teco_run, teco_undo, teco_redo and teco_rewind.
@@ -13,7 +13,7 @@
 
 static const struct program PROGRAM = {
     .name = "teco-screen",
-    .usage = "usage: teco-screen [-f FILE].. [-i | -o FILE] [--page-lines N] [--limit N] [--undo N] INPUT..\n",
+    .usage = "usage: teco-screen [-f FILE].. [-i | -o FILE] [--page-lines N] [--limit N] [--undo N] [--wide] INPUT..\n",
     /* The completions of the shells are made of these lines, by tools/completions. */
     .help = "TECO on a full screen: a command string shows what it does while it is typed\n"
             "\n"
@@ -29,6 +29,7 @@ static const struct program PROGRAM = {
             "      --page-lines <N>  The most lines of a page, at most 1000000000; without it form feeds end pages\n"
             "      --limit <N>       The most steps that each command string may take, at most 1000000000000; 1000000 without it\n"
             "      --undo <N>        The most command strings kept to be undone, at most 100000; all without it\n"
+            "      --wide            Reads the commands in the wider language of old macros\n"
             "  -h, --help            Print help\n"
             "  -V, --version         Print version\n"
             "\n"

@@ -1,7 +1,7 @@
 /*
  * teco-term - TECO for a person at a terminal
  *
- *   teco-term [-f FILE].. [-i | -o FILE] [--page-lines N] [--limit N] [--undo N] [--steps] INPUT..
+ *   teco-term [-f FILE].. [-i | -o FILE] [--page-lines N] [--limit N] [--undo N] [--wide] [--steps] INPUT..
  *
  * Keys make command strings, which are run at ESC ESC by the library of teco.h; docs/TERMINAL.md tells of the keys. What a string types is
  * shown when it has ended. Nothing here changes a text but through teco_run, teco_undo, teco_redo and teco_rewind.
@@ -15,7 +15,7 @@ static const struct marks MARKS = {.begin = "\33[?2004h", .end = "\33[?2004l"};
 static const struct program PROGRAM = {
     .name = "teco-term",
     .has_steps = true,
-    .usage = "usage: teco-term [-f FILE].. [-i | -o FILE] [--page-lines N] [--limit N] [--undo N] [--steps] INPUT..\n",
+    .usage = "usage: teco-term [-f FILE].. [-i | -o FILE] [--page-lines N] [--limit N] [--undo N] [--wide] [--steps] INPUT..\n",
     /* The completions of the shells are made of these lines, by tools/completions. */
     .help = "TECO for a person at a terminal: a command string is run at ESC ESC, and can be undone\n"
             "\n"
@@ -31,6 +31,7 @@ static const struct program PROGRAM = {
             "      --page-lines <N>  The most lines of a page, at most 1000000000; without it form feeds end pages\n"
             "      --limit <N>       The most steps that each command string may take, at most 1000000000000; 1000000 without it\n"
             "      --undo <N>        The most command strings kept to be undone, at most 100000; all without it\n"
+            "      --wide            Reads the commands in the wider language of old macros\n"
             "      --steps           Shows after each string how many steps it took\n"
             "  -h, --help            Print help\n"
             "  -V, --version         Print version\n"

@@ -78,11 +78,11 @@ class Journal:
             os.close(file)
 
 
-def begun(path: Path, text: bytes, page_lines: int, depth: int) -> Journal:
+def begun(path: Path, text: bytes, page_lines: int, depth: int, wide: bool) -> Journal:
     """A new file with the head of a session. If it can't be written, there is none."""
-    journal = Journal(path, os.O_WRONLY | os.O_CREAT | os.O_EXCL)
+    journal, head = Journal(path, os.O_WRONLY | os.O_CREAT | os.O_EXCL), library.teco_head_wide if wide else library.teco_head
     try:
-        journal.put(journal.made(lambda line: library.teco_head(text, len(text), page_lines, depth, line)))
+        journal.put(journal.made(lambda line: head(text, len(text), page_lines, depth, line)))
     except BaseException:
         journal.close()
         os.unlink(path)

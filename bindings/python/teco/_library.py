@@ -77,15 +77,17 @@ def _calls():
         "text": (c_size_t, *room, size),
         "output": (c_size_t, *room, size), "input": (c_size_t, *room, size), "number": (c_uint8, POINTER(c_int32)),
         "register": (c_uint8, *room, size), "search": (*room, size), "pushed": (size,), "place": (size,),
-        "done": (), "found": (), "form_feed": (), "either_case": (),
+        "done": (), "found": (), "form_feed": (), "either_case": (), "is_wide": (),
     }
     requests = {
-        "open": (*text, c_size_t, c_size_t), "resume": (*text, POINTER(Resumed)), "run": (*text, POINTER(Run)),
+        "open": (*text, c_size_t, c_size_t), "open_wide": (*text, c_size_t, c_size_t), "resume": (*text, POINTER(Resumed)),
+        "run": (*text, POINTER(Run)),
         "undo": (), "redo": (), "rewind": (c_uint64,), "forget": (), "close": (),
     }
     others = {
-        "token": (*text, c_size_t, POINTER(FoundToken)), "source": (*text, *room, POINTER(ReadSource)),
-        "head": (*text, c_size_t, c_size_t, POINTER(Line)), "record": (*text, POINTER(Line)),
+        "token": (*text, c_size_t, POINTER(FoundToken)), "token_wide": (*text, c_size_t, POINTER(FoundToken)),
+        "source": (*text, *room, POINTER(ReadSource)), "head": (*text, c_size_t, c_size_t, POINTER(Line)),
+        "head_wide": (*text, c_size_t, c_size_t, POINTER(Line)), "record": (*text, POINTER(Line)),
         "stopper_open": (stopper, stopper), "stopper_close": (stopper,), "stop": (stopper, c_uint8),
     }
     return {**{name: (session, *arguments) for name, arguments in {**looks, **requests}.items()}, **others}

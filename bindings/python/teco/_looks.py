@@ -187,6 +187,11 @@ class Looks:
         return self._says(library.teco_either_case)
 
     @property
+    def wide(self) -> bool:
+        """Whether command strings are read in the wide language."""
+        return self._says(library.teco_is_wide)
+
+    @property
     def strings(self) -> "Strings":
         """The strings that are kept, the oldest first, undone ones too."""
         return Strings(self)

@@ -44,8 +44,9 @@ class Session(Looks):
     """An editor that runs command strings, each of which is recorded and can be undone.
 
     It is opened over a copy of the `input`, and its buffer is empty: the command `Y` reads the first page. It keeps the last `depth`
-    strings, at most 100,000, or with 0 all of them. A page ends at a form feed, and with `page_lines` after so many lines too. It closes
-    itself, at the end of a `with` or when it is no longer used.
+    strings, at most 100,000, or with 0 all of them. A page ends at a form feed, and with `page_lines` after so many lines too. With `wide`
+    command strings are read in the wide language, that of `--wide` of the programs, which reads old macros. It closes itself, at the end of a
+    `with` or when it is no longer used.
 
     With a `file`, the path of a new one, the line of each request is written there before its call returns, also at Ctrl-C, and `resume`
     goes on with it. If that fails, OSError is raised, but the request is done, and its line comes with the next one. Nothing is synced to
@@ -63,15 +64,15 @@ class Session(Looks):
     b''
     """
 
-    def __init__(self, input: Bytes = b"", *, depth: int = 0, page_lines: int = 0, file: Optional[Path] = None,
+    def __init__(self, input: Bytes = b"", *, depth: int = 0, page_lines: int = 0, wide: bool = False, file: Optional[Path] = None,
                  pinned: bool = True) -> None:
         if "_handle" in self.__dict__:
             raise UsageError("a session is opened once")
         text, depth, lines = as_bytes(input), as_number(depth, NOWHERE), as_number(page_lines, NOWHERE)
         self._begin(pinned, depth)
-        succeeds(self._call(library.teco_open, text, len(text), lines, depth))
+        succeeds(self._call(library.teco_open_wide if wide else library.teco_open, text, len(text), lines, depth))
         if file is not None:
-            self._file = begun(file, text, lines, depth)
+            self._file = begun(file, text, lines, depth, wide)
 
     def _begin(self, pinned: bool, depth: int) -> None:
         super().__init__(pinned)

@@ -10,16 +10,17 @@ from ._library import NOWHERE, FoundToken, ReadSource, Room, library
 from ._results import Token
 
 
-def token(text: Bytes, at: int = 0) -> Optional[Token]:
+def token(text: Bytes, at: int = 0, *, wide: bool = False) -> Optional[Token]:
     """What stands at a place of a text, in bytes from 0, after fillers, which are SP, CR, LF and NUL: a token, or None at its end.
 
-    TokenError is raised if no token can be read there.
+    With `wide` it is read in the wide language. TokenError is raised if no token can be read there.
 
     >>> token(b"J Iab\\x1b", 1)
     Token(start=2, end=6, kind=<TokenKind.TEXT: 8>, size=2)
     """
     text, found = as_bytes(text), FoundToken()
-    answer = library.teco_token(text, len(text), as_number(at, NOWHERE), byref(found))
+    call = library.teco_token_wide if wide else library.teco_token
+    answer = call(text, len(text), as_number(at, NOWHERE), byref(found))
     if answer == NO_TOKEN:
         return None
     start = getattr(found, "from")

@@ -87,6 +87,16 @@ class TestFile(unittest.TestCase):
             session.run(b"P")
             self.assertEqual(session.text, b"b\n")
 
+    def test_wide(self):
+        for wide, front in (True, b"teco session 1 wide\nlines 1\ndepth 2\n"), (False, b"teco session 1\nlines 1\ndepth 2\n"):
+            path = f"{self.path} {wide}"
+            session = Session(b"one\ntwo", file=path, page_lines=1, depth=2, wide=wide)
+            self.assertTrue(bytes_of(path).startswith(front))
+            self.assertEqual(session.run(b"Y0\"=:XQ'").code, None if wide else teco.Code.IQC)
+            self.is_again(session, path)
+            with resume(path) as again:
+                self.assertEqual((again.wide, again.register("Q")), (wide, b"one\n" if wide else b""))
+
     def test_damages(self):
         session = Session(b"one", file=self.path)
         head = len(bytes_of(self.path))

@@ -113,6 +113,17 @@ class TestSession(unittest.TestCase):
         session.run(b"Y")
         self.assertEqual((session.text, session.form_feed), (b"a\n", False))
 
+    def test_wide(self):
+        wide, session = Session(b"one\ntwo", wide=True, page_lines=1), Session()
+        self.assertEqual((wide.wide, session.wide), (True, False))
+        self.assertEqual((wide.run(b"0\"=1='").printed, session.run(b"0\"=1='").code), (b"1\r\n", Code.IQC))
+        wide.run(b"Iab\x1bJ:XA\x1b\x1b").check()
+        wide.run(b":XA").check()
+        self.assertEqual(wide.register("A"), b"abab")
+        wide.run(b"HKY").check()
+        self.assertEqual((wide.text, len(wide.strings)), (b"one\n", 4))
+        self.assertRaises(teco.TooLargeError, Session, wide=True, depth=100001)
+
     def test_depth(self):
         session = Session(depth=2)
         for string in b"Ia\x1b", b"Ib\x1b", b"Ic\x1b":
@@ -157,8 +168,8 @@ class TestRefusals(unittest.TestCase):
             self.assertIs(same, session)
         session.close()
         self.assertEqual((session.closed, repr(session)), (True, "<teco.Session, closed>"))
-        for call in (lambda: session.text, lambda: session.done, lambda: session.input, lambda: session.strings[0], lambda: session.search,
-                     lambda: len(session), session.forget, lambda: session.run(b"J"), lambda: session.insert(b""), session.__enter__):
+        for call in (lambda: session.text, lambda: session.done, lambda: session.wide, lambda: session.input, lambda: session.strings[0],
+                     lambda: session.search, lambda: len(session), session.forget, lambda: session.run(b"J"), lambda: session.insert(b""), session.__enter__):
             self.assertRaises(teco.ClosedError, call)
         self.assertRaises(teco.UsageError, Session(b"").__init__)
 
@@ -262,6 +273,15 @@ class TestTexts(unittest.TestCase):
                 teco.token(text)
             self.assertEqual((raised.exception.code, raised.exception.at), (code, at))
         self.assertEqual(str(raised.exception), "UTC, text ends inside a command or block, at byte 1")
+
+    def test_wide(self):
+        self.assertEqual(teco.token(b" :XAJ", wide=True), Token(1, 4, TokenKind.REGISTER, 0))
+        self.assertEqual(teco.token(b"J\"=J'", 1, wide=True), Token(1, 3, TokenKind.TEST, 0))
+        self.assertIsNone(teco.token(b"J", 1, wide=True))
+        for wide, text, code in (False, b":XA", Code.ILL), (False, b'"=', Code.IQC), (True, b'"x', Code.IQC), (True, b"Ia", Code.UTC):
+            with self.assertRaises(teco.TokenError) as raised:
+                teco.token(text, wide=wide)
+            self.assertEqual(raised.exception.code, code)
 
     def test_sources(self):
         self.assertEqual(teco.source(b"  Iab$ !! a text\n  T\n"), b"Iab\x1bT")

@@ -3,6 +3,8 @@ use Rattle.std.specs.Prelude.{◌≡◌, ℕ, List, Bool, true, false, if◌then
 use Rattle.teco_core.specs.Register.{Content, content, register_of}
 use Rattle.teco_core.specs.declared.case_mode.CaseMode.{CaseMode}
 use Rattle.teco_core.specs.declared.case_mode.CaseMode.TheVariants.{Exact, Either}
+use Rattle.teco_core.specs.declared.profile.Profile.{Profile}
+use Rattle.teco_core.specs.declared.profile.Profile.TheVariants.{Named, Wide}
 use Rattle.teco_store.specs.State.{State}
 use Rattle.teco_session.specs.History.{NotedString, present}
 use Rattle.teco_session.specs.Kept.{history_of}
@@ -26,6 +28,11 @@ register_named_by name kept = option_map (content (state_now kept).registers) (r
 abbrev pub is_either : CaseMode → Bool
 is_either Exact = false
 is_either Either = true
+
+-- whether command strings are read in the wide language
+abbrev pub is_wide : Profile → Bool
+is_wide Named = false
+is_wide Wide = true
 
 -- A number of it is told. A closed handle tells 0.
 abbrev pub Tells : Option Kept → ℕ → ℕ → (Kept → ℕ) → Type 0

@@ -2,17 +2,48 @@
 ghost use Rattle.std.specs.Prelude.{◌≡◌, ◌≢◌, ◌⊎◌, ◌↔◌, ◌<◌, ◌≤◌, length, IfOk, None, Some};
 ghost use Rattle.teco_core.specs.Code.{number_of};
 ghost use Rattle.teco_core.specs.declared.code.Code.TheVariants.{Mem};
+ghost use Rattle.teco_core.specs.declared.profile.Profile.TheVariants.{Wide};
 ghost use Rattle.teco_session.specs.Kept.{new_paged_session};
-ghost use Rattle.teco_ffi.specs.Calls.{StaysClosed, Undoes, Redoes, Rewinds, Forgets, depth_asked};
+ghost use Rattle.teco_ffi.specs.Calls.{StaysClosed, Undoes, Redoes, Rewinds, Forgets, begun_session, depth_asked};
 ghost use Rattle.teco_ffi.specs.Handle.{SessionGoes};
 ghost use Rattle.teco_ffi.specs.Runs.{KeepsGiven, TellsNothing, TellsRun};
 
 use crate::answers::{CLOSED, DEEP, LARGE, NOWHERE};
 use crate::handle::Teco;
 use std::alloc::Global;
-use teco_core::{Code, DEPTH_LIMIT, FILE_LIMIT};
+use teco_core::{Code, DEPTH_LIMIT, FILE_LIMIT, Profile};
 use teco_ffi::calls::{session_over, undo};
 use teco_ffi::runs::Run;
+
+/// Opens a handle in a profile, as `teco_open` does in the profile Named.
+fn open_in(
+    alloc: Global,
+    profile: Profile,
+    t: &mut Teco,
+    input: &[u8],
+    lines: usize,
+    depth: usize,
+) -> u8
+    ensures opened { result ≡ 0 → t.new.value ≡ Some (begun_session profile lines (depth_asked depth) input.now) }
+    ensures refused { result ≢ 0 → t.new.value ≡ t.old.value }
+    ensures large { (result ≡ LARGE) ↔ (FILE_LIMIT < length input.now) }
+    ensures deep { (result ≡ DEEP) ↔ ((length input.now ≤ FILE_LIMIT) × (DEPTH_LIMIT < depth)) }
+    ensures else_memory { (result ≡ 0) ⊎ (result ≡ LARGE) ⊎ (result ≡ DEEP) ⊎ (result ≡ number_of Mem) }
+{
+    if input.len() > FILE_LIMIT {
+        return LARGE;
+    }
+    if depth > DEPTH_LIMIT {
+        return DEEP;
+    }
+    match session_over(alloc, profile, input, lines, depth) {
+        Err(_) => Code::Mem.number(),
+        Ok(session) => {
+            t.open(session);
+            0
+        }
+    }
+}
 
 /// Opens a handle: a session over a copy of the input, whose pages end after so many lines too, or after any number where that is 0. It
 /// keeps the last `depth` strings, or all of them where that is 0. What was open in it is freed then.
@@ -32,19 +63,25 @@ pub extern "C" fn teco_open(
     ensures deep { (result ≡ DEEP) ↔ ((length input.now ≤ FILE_LIMIT) × (DEPTH_LIMIT < depth)) }
     ensures else_memory { (result ≡ 0) ⊎ (result ≡ LARGE) ⊎ (result ≡ DEEP) ⊎ (result ≡ number_of Mem) }
 {
-    if input.len() > FILE_LIMIT {
-        return LARGE;
-    }
-    if depth > DEPTH_LIMIT {
-        return DEEP;
-    }
-    match session_over(alloc, input, lines, depth) {
-        Err(_) => Code::Mem.number(),
-        Ok(session) => {
-            t.open(session);
-            0
-        }
-    }
+    open_in(alloc, Profile::Named, t, input, lines, depth)
+}
+
+/// Opens a handle as `teco_open` does, with a session whose strings are read in the wide language.
+#[unsafe(no_mangle)]
+pub extern "C" fn teco_open_wide(
+    alloc: Global,
+    t: &mut Teco,
+    input: &[u8],
+    lines: usize,
+    depth: usize,
+) -> u8
+    ensures opened { result ≡ 0 → t.new.value ≡ Some (begun_session Wide lines (depth_asked depth) input.now) }
+    ensures refused { result ≢ 0 → t.new.value ≡ t.old.value }
+    ensures large { (result ≡ LARGE) ↔ (FILE_LIMIT < length input.now) }
+    ensures deep { (result ≡ DEEP) ↔ ((length input.now ≤ FILE_LIMIT) × (DEPTH_LIMIT < depth)) }
+    ensures else_memory { (result ≡ 0) ⊎ (result ≡ LARGE) ⊎ (result ≡ DEEP) ⊎ (result ≡ number_of Mem) }
+{
+    open_in(alloc, Profile::Wide, t, input, lines, depth)
 }
 
 /// Closes a handle, and frees what it held. A closed one is let be.

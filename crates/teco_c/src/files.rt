@@ -2,6 +2,7 @@
 ghost use Rattle.std.specs.Prelude.{◌≡◌, ◌≢◌, ◌↔◌, ◌⊎◌, IfSome, None};
 ghost use Rattle.teco_core.specs.Code.{number_of};
 ghost use Rattle.teco_core.specs.declared.code.Code.TheVariants.{Mem};
+ghost use Rattle.teco_core.specs.declared.profile.Profile.TheVariants.{Named, Wide};
 ghost use Rattle.teco_journal.specs.Events.{event_of};
 ghost use Rattle.teco_journal.specs.Heads.{first_check, whole_head};
 ghost use Rattle.teco_journal.specs.Lines.{check_of, line_of, words_of};
@@ -11,6 +12,7 @@ ghost use Rattle.teco_c.specs.Files.{IsOpenedAgain};
 use crate::answers::OUTSIDE;
 use crate::handle::Teco;
 use std::alloc::Global;
+use teco_core::Profile;
 use teco_ffi::lines::{Line, tell_head, tell_record};
 use teco_ffi::resuming::{Resumed, session_in};
 
@@ -25,13 +27,31 @@ pub extern "C" fn teco_head(
     depth: usize,
     line: &mut Line,
 ) -> u8
-    ensures told { let begun = beginning_asked lines depth input.now in
+    ensures told { let begun = beginning_asked Named lines depth input.now in
         result ≡ 0 → IsLineTold (whole_head begun) (first_check begun) line.old line.new }
     ensures refused { result ≢ 0 → IsNoLineTold line.old line.new }
     ensures else_memory { (result ≡ 0) ⊎ (result ≡ number_of Mem) }
     ensures kept { KeepsLine line.old line.new }
 {
-    tell_head(alloc, input, lines, depth, line)
+    tell_head(alloc, Profile::Named, input, lines, depth, line)
+}
+
+/// Puts the head as `teco_head` does, of a session whose strings are read in the wide language.
+#[unsafe(no_mangle)]
+pub extern "C" fn teco_head_wide(
+    alloc: Global,
+    input: &[u8],
+    lines: usize,
+    depth: usize,
+    line: &mut Line,
+) -> u8
+    ensures told { let begun = beginning_asked Wide lines depth input.now in
+        result ≡ 0 → IsLineTold (whole_head begun) (first_check begun) line.old line.new }
+    ensures refused { result ≢ 0 → IsNoLineTold line.old line.new }
+    ensures else_memory { (result ≡ 0) ⊎ (result ≡ number_of Mem) }
+    ensures kept { KeepsLine line.old line.new }
+{
+    tell_head(alloc, Profile::Wide, input, lines, depth, line)
 }
 
 /// Puts the line of what a request did behind the last check, which then is its own. The text is that of the string that was run.

@@ -1,13 +1,13 @@
 //! The calls that tell of the editing state.
 ghost use Rattle.std.specs.Prelude.{◌≡◌, length, drop, count_by, slice_range, option_map, pos};
 ghost use Rattle.teco_core.specs.Ascii.{is_line_end};
-ghost use Rattle.teco_c.specs.Looks.{Tells, TellsIf, Says, Copies, CopiesIf, register_named_by, state_now, is_either};
+ghost use Rattle.teco_c.specs.Looks.{Tells, TellsIf, Says, Copies, CopiesIf, register_named_by, state_now, is_either, is_wide};
 
 use crate::answers::{CLOSED, OUTSIDE};
 use crate::halves::{bytes_from, halves_between, line_ends};
 use crate::handle::Teco;
 use crate::room::{copy_from, copy_front, copy_output};
-use teco_core::{CaseMode, Reg};
+use teco_core::{CaseMode, Profile, Reg};
 use teco_store::Desk;
 
 /// Writes how long the text is. Takes no memory.
@@ -249,4 +249,16 @@ pub extern "C" fn teco_either_case(t: &mut Teco) -> u8
         return CLOSED;
     };
     u8::from(session.editor().case_mode() == CaseMode::Either)
+}
+
+/// Whether command strings are read in the wide language: 1 or 0. Takes no memory.
+#[unsafe(no_mangle)]
+pub extern "C" fn teco_is_wide(t: &mut Teco) -> u8
+    ensures told { Says t.old.value result (λ state. is_wide state.profile) }
+    ensures same { t.new ≡ t.old }
+{
+    let Some(session) = t.look() else {
+        return CLOSED;
+    };
+    u8::from(session.editor().profile() == Profile::Wide)
 }

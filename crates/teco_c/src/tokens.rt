@@ -1,9 +1,10 @@
-//! The call that reads a token of a text.
-ghost use Rattle.teco_core.specs.declared.profile.Profile.TheVariants.{Named};
+//! The calls that read a token of a text.
+ghost use Rattle.teco_core.specs.declared.profile.Profile.TheVariants.{Named, Wide};
 ghost use Rattle.std.specs.Prelude.{◌≡◌, ◌≤◌, drop, length};
 ghost use Rattle.teco_scan.specs.Scan.{after_fillers, scan};
 ghost use Rattle.teco_ffi.specs.Tokens.{after_token, last_text, token_answer, token_kind};
 
+use teco_core::Profile;
 use teco_ffi::tokens::{ToldToken, tell_token};
 
 /// Tells what stands at a place of a text after fillers: the two ends of a token, the number of its kind, and how many bytes its last text
@@ -19,5 +20,18 @@ pub extern "C" fn teco_token(text: &[u8], at: usize, told: &mut ToldToken) -> u8
     ensures size { told.new.size ≡ length (last_text (scan Named (drop at text.now))) }
     ensures within { (told.new.from ≤ told.new.to) × (told.new.to ≤ length text.now) }
 {
-    tell_token(text, at, told)
+    tell_token(Profile::Named, text, at, told)
+}
+
+/// Tells what stands at a place of a text as `teco_token` does, where the text is read in the wide language.
+#[unsafe(no_mangle)]
+pub extern "C" fn teco_token_wide(text: &[u8], at: usize, told: &mut ToldToken) -> u8
+    ensures answer { result ≡ token_answer (scan Wide (drop at text.now)) }
+    ensures from { drop told.new.from text.now ≡ after_fillers (drop at text.now) }
+    ensures to { drop told.new.to text.now ≡ after_token (scan Wide (drop at text.now)) }
+    ensures kind { told.new.kind ≡ token_kind (scan Wide (drop at text.now)) }
+    ensures size { told.new.size ≡ length (last_text (scan Wide (drop at text.now))) }
+    ensures within { (told.new.from ≤ told.new.to) × (told.new.to ≤ length text.now) }
+{
+    tell_token(Profile::Wide, text, at, told)
 }

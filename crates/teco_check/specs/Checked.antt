@@ -2,7 +2,7 @@
 use Rattle.std.specs.Prelude.{◌≡◌, ℕ, zero, suc, ◌-◌, Bool, true, false, ◌||◌, ◌<◌, ◌≤◌, List, length, drop, slice_index, slice_index_or, Option, Some, None, Result, Ok, Err, is_some}
 use Rattle.teco_core.specs.declared.code.Code.{Code}
 use Rattle.teco_core.specs.declared.code.Code.TheVariants.{Pdo, Utc}
-use Rattle.teco_core.specs.declared.profile.Profile.TheVariants.{Named}
+use Rattle.teco_core.specs.declared.profile.Profile.{Profile}
 use Rattle.teco_scan.specs.declared.blocks.Kind.{Kind}
 use Rattle.teco_scan.specs.Tree.{Nodes}
 use Rattle.teco_scan.specs.Lists.{list_at, tag_at}
@@ -24,23 +24,23 @@ abbrev pub held : List Bool → ℕ → Bool
 held code q = slice_index_or code q false
 
 -- the texts that may be put there: those that are clean, and so on, so many texts deep
-abbrev pub may_hold : ℕ → List Bool → List ℕ → Bool
-may_hold n code = clean_within n (held code)
+abbrev pub may_hold : Profile → ℕ → List Bool → List ℕ → Bool
+may_hold p n code = clean_within p n (held code)
 
 -- A tag of this name is directly in one of the innermost lists so many, the outermost of which is that of the text. `starts` has the
 -- place where each begins.
-unfoldable pub lands_below : List ℕ → List ℕ → ℕ → List ℕ → Bool
-lands_below bytes starts zero name = false
-lands_below bytes starts (suc d) name = is_some (tag_at Named name d (drop (slice_index starts d) bytes)) || lands_below bytes starts d name
+unfoldable pub lands_below : Profile → List ℕ → List ℕ → ℕ → List ℕ → Bool
+lands_below p bytes starts zero name = false
+lands_below p bytes starts (suc d) name = is_some (tag_at p name d (drop (slice_index starts d) bytes)) || lands_below p bytes starts d name
 
 -- The lists are those that begin at these places, as far as a jump can tell.
-abbrev pub AreOpen : List ℕ → List ℕ → ℕ → List Nodes → Type 0
-AreOpen bytes starts d lists = (name : List ℕ) → lands lists name ≡ lands_below bytes starts d name
+abbrev pub AreOpen : Profile → List ℕ → List ℕ → ℕ → List Nodes → Type 0
+AreOpen p bytes starts d lists = (name : List ℕ) → lands lists name ≡ lands_below p bytes starts d name
 
 -- whether the rest of a list is clean, where a node of it was passed up to a place; a fault in the node makes it unclean
-abbrev pub rest_clean : (ℕ → Bool) → (List ℕ → Bool) → List Nodes → List ℕ → Option Kind → ℕ → Result ℕ Fault → Bool
-rest_clean code may lists bytes k d (Ok to) = is_clean code may lists (list_at Named k d (drop to bytes)).0
-rest_clean code may lists bytes k d (Err f) = false
+abbrev pub rest_clean : Profile → (ℕ → Bool) → (List ℕ → Bool) → List Nodes → List ℕ → Option Kind → ℕ → Result ℕ Fault → Bool
+rest_clean p code may lists bytes k d (Ok to) = is_clean code may lists (list_at p k d (drop to bytes)).0
+rest_clean p code may lists bytes k d (Err f) = false
 
 -- The places of so many lists lie in the text.
 abbrev pub AreInside : List ℕ → List ℕ → ℕ → Type 0
@@ -68,9 +68,9 @@ suits wrongs.InText (step (set_text q t)) = true
 suits w i = false
 
 -- The bytes begin with what is wrong: with no token, or with one that can have this wrong with it.
-abbrev pub IsFaultHere : List ℕ → Wrong → Type 0
-IsFaultHere bs (wrongs.Unreadable c) = scan Named bs ≡ fault c
-IsFaultHere bs w = (t : TokenMeaning) × ((rest : List ℕ) × ((scan Named bs ≡ found t rest) × (suits w t.instruction ≡ true)))
+abbrev pub IsFaultHere : Profile → List ℕ → Wrong → Type 0
+IsFaultHere p bs (wrongs.Unreadable c) = scan p bs ≡ fault c
+IsFaultHere p bs w = (t : TokenMeaning) × ((rest : List ℕ) × ((scan p bs ≡ found t rest) × (suits w t.instruction ≡ true)))
 
 -- the code by which a run ends where it comes to this
 abbrev pub code_of : Wrong → Option Code

@@ -1,5 +1,5 @@
 //! Where a list ends.
-ghost use Rattle.teco_core.specs.declared.profile.Profile.TheVariants.{Named};
+ghost use Rattle.teco_core.specs.declared.profile.Profile.{Profile};
 ghost use Rattle.std.specs.Prelude.{◌≡◌, ◌≢◌, ◌≤◌, ℕ, true, false, Bool, List, length, drop, IfOk, IfErr, Option, Some, None, Ok, is_ok};
 ghost use Rattle.teco_core.specs.declared.code.Code.{Code};
 ghost use Rattle.teco_scan.specs.Scan.{ended};
@@ -37,17 +37,17 @@ pub fn end_of_list(
     to: usize,
 ) -> Result<SkipEnd, Fault>
     requires { mark ≢ BlockMark.Iterate }
-    ensures clean { (text : List ℕ) (d : ℕ) (code : ℕ → Bool) (may : List ℕ → Bool) (lists : List Nodes)
-        → is_clean code may lists (at_mark (list_at Named) mark (drop to text) kind d).0 ≡ is_ok result }
-    ensures closes { (text : List ℕ) (d : ℕ)
-        → IfOk result (λ stop. (at_mark (list_at Named) mark (drop to text) kind d).1 ≡ close_of text (Ok stop)) }
-    ensures first { (code : CodeRule) (text : List ℕ) (start : ℕ) (os : List OpenList) → to ≤ length text
-        → walked.at_mark (by_check code text) (check_walk code text) text mark kind from (record { kind = kind; opening = opening; start = start }) os (drop to text)
-        ≡ after_list code text kind opening os result }
+    ensures clean { (p : Profile) (text : List ℕ) (d : ℕ) (code : ℕ → Bool) (may : List ℕ → Bool) (lists : List Nodes)
+        → is_clean code may lists (at_mark (list_at p) mark (drop to text) kind d).0 ≡ is_ok result }
+    ensures closes { (p : Profile) (text : List ℕ) (d : ℕ)
+        → IfOk result (λ stop. (at_mark (list_at p) mark (drop to text) kind d).1 ≡ close_of text (Ok stop)) }
+    ensures first { (p : Profile) (code : CodeRule) (text : List ℕ) (start : ℕ) (os : List OpenList) → to ≤ length text
+        → walked.at_mark (by_check p code text) (check_walk p code text) text mark kind from (record { kind = kind; opening = opening; start = start }) os (drop to text)
+        ≡ after_list p code text kind opening os result }
     ensures place { IfOk result (λ stop. stop.to ≡ to) }
     ensures stray { IfErr result (λ fault. (fault.at ≡ from) × (is_stray fault.wrong ≡ true)) }
-    ensures breaks { (text : List ℕ) (d : ℕ) (code : Code)
-        → IfErr result (λ fault. code_of fault.wrong ≡ Some code → (at_mark (list_at Named) mark (drop to text) kind d).1 ≡ broken code) }
+    ensures breaks { (p : Profile) (text : List ℕ) (d : ℕ) (code : Code)
+        → IfErr result (λ fault. code_of fault.wrong ≡ Some code → (at_mark (list_at p) mark (drop to text) kind d).1 ≡ broken code) }
 {
     let innermost = opened_at(kind, opening);
     let whole = SkipEnd { to, divided: false };
@@ -70,17 +70,17 @@ pub fn end_of_list(
 /// The end of the text ends the text's own list; inside a block it is a fault of the block that is opened at this place.
 #[tactic(auto, unfolding(crate::specs::Clean::is_clean))]
 pub fn end_of_text(kind: Option<Kind>, opening: usize, to: usize) -> Result<SkipEnd, Fault>
-    ensures clean { (d : ℕ) (code : ℕ → Bool) (may : List ℕ → Bool) (lists : List Nodes)
-        → is_clean code may lists (at_scan (list_at Named) ended kind d).0 ≡ is_ok result }
-    ensures first { (code : CodeRule) (text : List ℕ) (at start : ℕ) (os : List OpenList)
-        → at_end (by_check code text) kind at (record { kind = kind; opening = opening; start = start })
-        ≡ after_list code text kind opening os result }
+    ensures clean { (p : Profile) (d : ℕ) (code : ℕ → Bool) (may : List ℕ → Bool) (lists : List Nodes)
+        → is_clean code may lists (at_scan (list_at p) ended kind d).0 ≡ is_ok result }
+    ensures first { (p : Profile) (code : CodeRule) (text : List ℕ) (at start : ℕ) (os : List OpenList)
+        → at_end (by_check p code text) kind at (record { kind = kind; opening = opening; start = start })
+        ≡ after_list p code text kind opening os result }
     ensures text { is_ok result ≡ true → kind ≡ None }
     ensures place { IfOk result (λ stop. stop.to ≡ to) }
     ensures unended { IfErr result (λ fault. (fault.at ≡ opening) × (fault.wrong ≡ Wrong.Unended)) }
     ensures inside { is_ok result ≡ false → kind ≢ None }
-    ensures breaks { (d : ℕ) (code : Code)
-        → IfErr result (λ fault. code_of fault.wrong ≡ Some code → (at_scan (list_at Named) ended kind d).1 ≡ broken code) }
+    ensures breaks { (p : Profile) (d : ℕ) (code : Code)
+        → IfErr result (λ fault. code_of fault.wrong ≡ Some code → (at_scan (list_at p) ended kind d).1 ≡ broken code) }
 {
     match kind {
         None => Ok(SkipEnd { to, divided: false }),

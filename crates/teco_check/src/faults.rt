@@ -1,5 +1,4 @@
 //! The first fault of a text.
-ghost use Rattle.teco_core.specs.declared.profile.Profile.TheVariants.{Named};
 ghost use Rattle.std.specs.Prelude.{slice_index, ◌≡◌, ◌≢◌, ◌+◌, ◌-◌, ◌<◌, ◌≤◌, ℕ, suc, true, false, Bool, List, [], ◌∷◌, length, drop, IfOk, IfErr, IfSome, Option, Some, None, is_ok, is_some, is_none};
 ghost use Rattle.teco_core.specs.declared.code.Code.{Code};
 ghost use Rattle.teco_core.specs.declared.limits.TheConstants.{BLOCK_LIMIT};
@@ -63,9 +62,11 @@ pub const REGISTERS: usize = 36;
 /// The most texts in one another that are looked into. Each takes stack for its open blocks, so there is a bound.
 pub const MOST_TEXTS: usize = 8;
 
-/// The registers that hold code, how many texts in one another are still looked into, and the tags that were gathered of a text.
+/// The profile that texts are read in, the registers that hold code, how many texts in one another are still looked into, and the tags
+/// that were gathered of a text.
 #[derive(Clone, Copy)]
 struct Look<'c, 'g, 't> {
+    profile: Profile,
     code: &'c [bool; REGISTERS],
     texts: usize,
     memory: Option<Global>,
@@ -98,11 +99,11 @@ fn wrong_of(
     requires item { IsItemIn (length text.now) item }
     requires short { item_length item < length text.now }
     requires tags { look.tags.now.bytes.now ≡ text.now }
-    requires named { look.tags.now.profile ≡ Named }
-    ensures fine { ItemFine (rule look.entry.texts look.entry.code.now) text.now starts.now count
+    requires named { look.tags.now.profile ≡ look.profile }
+    ensures fine { ItemFine look.entry.profile (rule look.entry.profile look.entry.texts look.entry.code.now) text.now starts.now count
         modifiers (item_in text.now item) (is_none result) }
-    ensures first { (lists : List OpenList) → length lists ≡ count → BeginThere text.now starts.now lists
-        → result ≡ wrong_with (rule look.entry.texts look.entry.code.now) text.now lists modifiers (item_in text.now item) }
+    ensures first { (lists : List OpenList) → length lists ≡ count → BeginThere look.entry.profile text.now starts.now lists
+        → result ≡ wrong_with look.entry.profile (rule look.entry.profile look.entry.texts look.entry.code.now) text.now lists modifiers (item_in text.now item) }
     ensures suits { IfSome result (λ wrong. suits wrong (step (item_in text.now item)) ≡ true) }
     ensures code { IfSome result (λ wrong. code_of wrong ≡ None) }
 {
@@ -137,7 +138,7 @@ fn wrong_of(
                 return Some(Wrong::InText);
             }
             let inside = &text[span.from..span.to];
-            if check_text(inside, look.code, look.texts - 1, look.memory).is_none() {
+            if check_text(look.profile, inside, look.code, look.texts - 1, look.memory).is_none() {
                 return None;
             }
             Some(Wrong::InText)
@@ -162,11 +163,11 @@ fn check_item(
     requires item { IsItemIn (length text.now) item }
     requires short { item_length item < length text.now }
     requires tags { look.tags.now.bytes.now ≡ text.now }
-    requires named { look.tags.now.profile ≡ Named }
-    ensures fine { ItemFine (rule look.entry.texts look.entry.code.now) text.now starts.now count
+    requires named { look.tags.now.profile ≡ look.profile }
+    ensures fine { ItemFine look.entry.profile (rule look.entry.profile look.entry.texts look.entry.code.now) text.now starts.now count
         modifiers (item_in text.now item) (is_ok result) }
     ensures place { IfOk result (λ x. x ≡ span.to) }
-    ensures first { ItemFirst (rule look.entry.texts look.entry.code.now) text.now starts.now count
+    ensures first { ItemFirst look.entry.profile (rule look.entry.profile look.entry.texts look.entry.code.now) text.now starts.now count
         modifiers (item_in text.now item) span.from span.to result }
     ensures suits { IfErr result (λ fault. (fault.at ≡ span.from)
         × (suits fault.wrong (step (item_in text.now item)) ≡ true)) }
@@ -193,18 +194,18 @@ fn check_conditional(
 ) -> Result<usize, Fault>
     requires inside { at ≤ length text.now }
     requires few { depth < BLOCK_LIMIT }
-    requires opened { IsFaultHere (drop opening text.now) Wrong.Unended }
+    requires opened { IsFaultHere look.profile (drop opening text.now) Wrong.Unended }
     requires starts { AreInside text.now starts.now (depth + 1) }
     requires tags { look.tags.now.bytes.now ≡ text.now }
-    requires named { look.tags.now.profile ≡ Named }
-    ensures clean { (test : Test) → NodeClean (rule look.entry.texts look.entry.code.now) text.now starts.now depth
-        (from_conditional text.now at test depth) result }
-    ensures first { NodeFirst (rule look.entry.texts look.entry.code.now) text.now starts.now depth
-        (walk_from_conditional (rule look.entry.texts look.entry.code.now) text.now opening at) result }
-    ensures closes { (test : Test) → NodeCloses text.now depth (from_conditional text.now at test depth) result }
+    requires named { look.tags.now.profile ≡ look.profile }
+    ensures clean { (test : Test) → NodeClean look.entry.profile (rule look.entry.profile look.entry.texts look.entry.code.now) text.now starts.now depth
+        (from_conditional look.entry.profile text.now at test depth) result }
+    ensures first { NodeFirst look.entry.profile (rule look.entry.profile look.entry.texts look.entry.code.now) text.now starts.now depth
+        (walk_from_conditional look.entry.profile (rule look.entry.profile look.entry.texts look.entry.code.now) text.now opening at) result }
+    ensures closes { (test : Test) → NodeCloses look.entry.profile text.now depth (from_conditional look.entry.profile text.now at test depth) result }
     ensures within { IfOk result (λ to. (at ≤ to) × (to ≤ length text.now)) }
-    ensures place { IfErr result (λ fault. IsFaultHere (drop fault.at text.now) fault.wrong) }
-    ensures breaks { (test : Test) → NodeBreaks (from_conditional text.now at test depth) result }
+    ensures place { IfErr result (λ fault. IsFaultHere look.entry.profile (drop fault.at text.now) fault.wrong) }
+    ensures breaks { (test : Test) → NodeBreaks (from_conditional look.entry.profile text.now at test depth) result }
 {
     let stop = check_list(text, look, opening, at, Some(Kind::Then), depth + 1, starts)?;
     if stop.divided {
@@ -236,18 +237,18 @@ fn check_node(
     requires kind { IsKindIn (length text.now) token.kind }
     requires few { depth ≤ BLOCK_LIMIT }
     requires starts { AreInside text.now starts.now (depth + 1) }
-    requires token { scan Named (drop token.span.from text.now) ≡ found (meaning_in text.now token) (drop token.span.to text.now) }
+    requires token { scan look.profile (drop token.span.from text.now) ≡ found (meaning_in text.now token) (drop token.span.to text.now) }
     requires node { closing_mark (instruction_in text.now token.kind) ≡ None }
     requires tags { look.tags.now.bytes.now ≡ text.now }
-    requires named { look.tags.now.profile ≡ Named }
-    ensures clean { NodeClean (rule look.entry.texts look.entry.code.now) text.now starts.now depth
-        (from_token text.now token token.modifiers depth) result }
-    ensures first { NodeFirst (rule look.entry.texts look.entry.code.now) text.now starts.now depth
-        (walk_from_token (rule look.entry.texts look.entry.code.now) text.now token) result }
-    ensures closes { (m : Modifiers) → NodeCloses text.now depth (from_token text.now token m depth) result }
+    requires named { look.tags.now.profile ≡ look.profile }
+    ensures clean { NodeClean look.entry.profile (rule look.entry.profile look.entry.texts look.entry.code.now) text.now starts.now depth
+        (from_token look.entry.profile text.now token token.modifiers depth) result }
+    ensures first { NodeFirst look.entry.profile (rule look.entry.profile look.entry.texts look.entry.code.now) text.now starts.now depth
+        (walk_from_token look.entry.profile (rule look.entry.profile look.entry.texts look.entry.code.now) text.now token) result }
+    ensures closes { (m : Modifiers) → NodeCloses look.entry.profile text.now depth (from_token look.entry.profile text.now token m depth) result }
     ensures within { IfOk result (λ to. (token.span.to ≤ to) × (to ≤ length text.now)) }
-    ensures place { IfErr result (λ fault. IsFaultHere (drop fault.at text.now) fault.wrong) }
-    ensures breaks { (m : Modifiers) → NodeBreaks (from_token text.now token m depth) result }
+    ensures place { IfErr result (λ fault. IsFaultHere look.entry.profile (drop fault.at text.now) fault.wrong) }
+    ensures breaks { (m : Modifiers) → NodeBreaks (from_token look.entry.profile text.now token m depth) result }
 {
     let from = token.span.from;
     let to = token.span.to;
@@ -292,19 +293,19 @@ fn check_list(
 ) -> Result<SkipEnd, Fault>
     requires inside { at ≤ length text.now }
     requires few { depth ≤ BLOCK_LIMIT }
-    requires opened { kind ≢ None → IsFaultHere (drop opening text.now) Wrong.Unended }
+    requires opened { kind ≢ None → IsFaultHere look.profile (drop opening text.now) Wrong.Unended }
     requires starts { AreInside text.now around.now depth }
     requires tags { look.tags.now.bytes.now ≡ text.now }
-    requires named { look.tags.now.profile ≡ Named }
-    ensures clean { ListClean (rule look.entry.texts look.entry.code.now) text.now around.now depth
-        (list_at Named kind depth (drop at text.now)) result }
-    ensures first { ListFirst (rule look.entry.texts look.entry.code.now) text.now around.now depth
+    requires named { look.tags.now.profile ≡ look.profile }
+    ensures clean { ListClean look.entry.profile (rule look.entry.profile look.entry.texts look.entry.code.now) text.now around.now depth
+        (list_at look.entry.profile kind depth (drop at text.now)) result }
+    ensures first { ListFirst look.entry.profile (rule look.entry.profile look.entry.texts look.entry.code.now) text.now around.now depth
         (record { kind = kind; opening = opening; start = at }) result }
     ensures closes { (b : Kind) → kind ≡ Some b
-        → IfOk result (λ stop. (list_at Named kind depth (drop at text.now)).1 ≡ close_of text.now (Ok stop)) }
+        → IfOk result (λ stop. (list_at look.entry.profile kind depth (drop at text.now)).1 ≡ close_of text.now (Ok stop)) }
     ensures within { IfOk result (λ stop. (at ≤ stop.to) × (stop.to ≤ length text.now)) }
-    ensures place { IfErr result (λ fault. IsFaultHere (drop fault.at text.now) fault.wrong) }
-    ensures breaks { ListBreaks (list_at Named kind depth (drop at text.now)) result }
+    ensures place { IfErr result (λ fault. IsFaultHere look.entry.profile (drop fault.at text.now) fault.wrong) }
+    ensures breaks { ListBreaks (list_at look.entry.profile kind depth (drop at text.now)) result }
 {
     block_laws();
     spelling();
@@ -312,7 +313,7 @@ fn check_list(
     starts[depth] = at;
     let mut next = at;
     loop {
-        match token_at(Profile::Named, text, next) {
+        match token_at(look.profile, text, next) {
             Found::End => return end_of_text(kind, opening, next),
             Found::Fault(code) => return Err(Fault {
                 at: filler_end(text, next),
@@ -336,12 +337,12 @@ fn check_list(
 #[cycle(check)]
 fn check_gathered(text: &[u8], look: Look<'_, '_, '_>) -> Option<Fault>
     requires tags { look.tags.now.bytes.now ≡ text.now }
-    requires named { look.tags.now.profile ≡ Named }
-    ensures first { result ≡ first_within look.entry.texts look.entry.code.now text.now }
-    ensures clean { clean_within (suc look.entry.texts) (held look.entry.code.now) text.now ≡ is_none result }
-    ensures place { IfSome result (λ fault. IsFaultHere (drop fault.at text.now) fault.wrong) }
+    requires named { look.tags.now.profile ≡ look.profile }
+    ensures first { result ≡ first_within look.entry.profile look.entry.texts look.entry.code.now text.now }
+    ensures clean { clean_within look.entry.profile (suc look.entry.texts) (held look.entry.code.now) text.now ≡ is_none result }
+    ensures place { IfSome result (λ fault. IsFaultHere look.entry.profile (drop fault.at text.now) fault.wrong) }
     ensures breaks { (code : Code)
-        → IfSome result (λ fault. code_of fault.wrong ≡ Some code → (list_at Named None 0 text.now).1 ≡ broken code) }
+        → IfSome result (λ fault. code_of fault.wrong ≡ Some code → (list_at look.entry.profile None 0 text.now).1 ≡ broken code) }
 {
     match check_list(text, look, 0, 0, None, 0, &[0; LISTS]) {
         Ok(_) => None,
@@ -349,22 +350,24 @@ fn check_gathered(text: &[u8], look: Look<'_, '_, '_>) -> Option<Fault>
     }
 }
 
-/// The first fault of a text. Without memory each jump searches for its tag.
+/// The first fault of a text in a profile. Without memory each jump searches for its tag.
 #[cycle(check)]
 pub(crate) fn check_text(
+    profile: Profile,
     text: &[u8],
     code: &[bool; REGISTERS],
     texts: usize,
     memory: Option<Global>,
 ) -> Option<Fault>
-    ensures first { result ≡ first_within texts code.now text.now }
-    ensures clean { clean_within (suc texts) (held code.now) text.now ≡ is_none result }
-    ensures place { IfSome result (λ fault. IsFaultHere (drop fault.at text.now) fault.wrong) }
+    ensures first { result ≡ first_within profile texts code.now text.now }
+    ensures clean { clean_within profile (suc texts) (held code.now) text.now ≡ is_none result }
+    ensures place { IfSome result (λ fault. IsFaultHere profile (drop fault.at text.now) fault.wrong) }
     ensures breaks { (code : Code)
-        → IfSome result (λ fault. code_of fault.wrong ≡ Some code → (list_at Named None 0 text.now).1 ≡ broken code) }
+        → IfSome result (λ fault. code_of fault.wrong ≡ Some code → (list_at profile None 0 text.now).1 ≡ broken code) }
 {
-    let tags = gathered(text, memory);
+    let tags = gathered(profile, text, memory);
     let look = Look {
+        profile,
         code,
         texts,
         memory,

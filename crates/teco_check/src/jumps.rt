@@ -1,5 +1,4 @@
 //! Where jumps look for their tags.
-ghost use Rattle.teco_core.specs.declared.profile.Profile.TheVariants.{Named};
 ghost use Rattle.std.specs.Prelude.{◌≡◌, ◌+◌, ◌≤◌, IfSome, List, ℕ, length};
 ghost use Rattle.teco_core.specs.declared.limits.TheConstants.{BLOCK_LIMIT};
 ghost use Rattle.teco_check.specs.Checked.{AreInside, lands_below};
@@ -22,9 +21,8 @@ pub(crate) fn lands_below(
     name: &[u8],
 ) -> bool
     requires few { count ≤ BLOCK_LIMIT + 1 }
-    requires named { tags.now.profile ≡ Named }
     requires inside { AreInside tags.now.bytes.now starts.now count }
-    ensures { result ≡ lands_below tags.now.bytes.now starts.now count name.now }
+    ensures { result ≡ lands_below tags.now.profile tags.now.bytes.now starts.now count name.now }
 {
     let mut below = count;
     while below > 0 {
@@ -83,14 +81,14 @@ fn is_jump(kind: TokenKind) -> bool {
     matches!(kind, TokenKind::Item(Item::Text(TextCommand::Go, _)))
 }
 
-/// The tags of the lists in which the jumps of a text look, as the named profile reads it, but for the first few jumps. Which lists are gathered changes only how fast
-/// a tag is found.
-pub(crate) fn gathered<'t>(text: &'t [u8], memory: Option<Global>) -> Tags<'t>
+/// The tags of the lists in which the jumps of a text look, as this profile reads it, but for the first few jumps. Which lists are
+/// gathered changes only how fast a tag is found.
+pub(crate) fn gathered<'t>(profile: Profile, text: &'t [u8], memory: Option<Global>) -> Tags<'t>
     ensures text { result.bytes.now ≡ text.now }
-    ensures named { result.profile ≡ Named }
+    ensures profile { result.profile ≡ profile }
 {
     let whole = Text {
-        profile: Profile::Named,
+        profile,
         bytes: text,
     };
     let mut tags = Tags::new(whole, memory);
@@ -101,7 +99,7 @@ pub(crate) fn gathered<'t>(text: &'t [u8], memory: Option<Global>) -> Tags<'t>
     let mut depth = 0;
     let mut jumps = 0;
     let mut at = 0;
-    'gathering: while let Found::Token(token) = token_at(Profile::Named, text, at) {
+    'gathering: while let Found::Token(token) = token_at(profile, text, at) {
         at = token.span.to;
         let Some(now) = depth_after(&mut starts, depth, token.kind, at) else {
             return tags;

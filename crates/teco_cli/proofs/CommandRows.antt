@@ -21,6 +21,7 @@ pub record Row : Type 0 where
   pub check : Option Text
   pub explain : Option Text
   pub quiet : Option Text
+  pub wide : Option Text
   pub limit : Option Text
   pub seconds : Option Text
   pub undo : Option Text
@@ -38,6 +39,7 @@ row_of words = record {
   check = one_of (codes "check") (matches_of teco_app words);
   explain = one_of (codes "explain") (matches_of teco_app words);
   quiet = one_of (codes "quiet") (matches_of teco_app words);
+  wide = one_of (codes "wide") (matches_of teco_app words);
   limit = one_of (codes "limit") (matches_of teco_app words);
   seconds = one_of (codes "seconds") (matches_of teco_app words);
   undo = one_of (codes "undo") (matches_of teco_app words);
@@ -57,6 +59,7 @@ plain input = record {
   check = Some (codes "false");
   explain = Some (codes "false");
   quiet = Some (codes "false");
+  wide = Some (codes "false");
   limit = None;
   seconds = None;
   undo = None;
@@ -82,14 +85,15 @@ numbers : map row_of (
 unfolding clap_on_literals
 numbers = refl
 
--- teco a --prompt --check --explain -q -ob --limit=0 --undo=100000
-all_given : row_of (codes "teco" ∷ codes "a" ∷ codes "--prompt" ∷ codes "--check" ∷ codes "--explain" ∷ codes "-q" ∷ codes "-ob" ∷ codes "--limit=0" ∷ codes "--undo=100000" ∷ [])
+-- teco a --prompt --check --explain --wide -q -ob --limit=0 --undo=100000
+all_given : row_of (codes "teco" ∷ codes "a" ∷ codes "--prompt" ∷ codes "--check" ∷ codes "--explain" ∷ codes "--wide" ∷ codes "-q" ∷ codes "-ob" ∷ codes "--limit=0" ∷ codes "--undo=100000" ∷ [])
     ≡ record (plain (codes "a")) {
       output = Some (codes "b");
       prompt = Some (codes "true");
       check = Some (codes "true");
       explain = Some (codes "true");
       quiet = Some (codes "true");
+      wide = Some (codes "true");
       limit = Some (codes "0");
       undo = Some (codes "100000");
     }

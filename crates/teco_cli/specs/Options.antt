@@ -7,7 +7,7 @@ use Rattle.clap.specs.Words.{all_of, IsUnsignedIn, Row, Rule, Text, first_of, on
 use Rattle.teco_core.specs.declared.limits.TheConstants.{DEPTH_LIMIT}
 use Rattle.teco_cli.specs.OptionTable.{flag, with_number, with_text, with_texts}
 use Rattle.teco_cli.specs.Assignments.{IsAssignment, IsNoAssignment}
-use Rattle.teco_cli.specs.Values.{number_of}
+use Rattle.teco_cli.specs.Values.{IsProfile, number_of}
 use Rattle.teco_cli.specs.declared.line.Commands.{Commands}
 use Rattle.teco_cli.specs.declared.line.Commands.TheVariants.{StandardInput, Sources, Pages, Bytes}
 use Rattle.teco_cli.specs.declared.line.Line.{Line}
@@ -32,6 +32,7 @@ option_rules = with_texts (codes "execute") (Some 101)
     ∷ flag (codes "prompt") None
     ∷ flag (codes "explain") None
     ∷ flag (codes "quiet") (Some 113)
+    ∷ flag (codes "wide") None
     ∷ []
 
 -- the texts that a parse gives for an option that may be given more than once
@@ -110,6 +111,8 @@ pub record HasLine (rows : List Row) (line : Line) : Type 0 where
   pub check : IsTrue line.check ↔ (one_of (codes "check") rows ≡ Some (codes "true"))
   pub explain : IsTrue line.explain ↔ (one_of (codes "explain") rows ≡ Some (codes "true"))
   pub quiet : IsTrue line.quiet ↔ (one_of (codes "quiet") rows ≡ Some (codes "true"))
+  -- the language of the commands
+  pub profile : IsProfile rows line.profile
   -- the depth of the history, if one is given
   pub undo : option_map number_of (one_of (codes "undo") rows) ≡ line.undo
   -- the line ends after which a page ends, if they are given

@@ -20,6 +20,6 @@ pub use parsing::{Program, parsed};
 pub(crate) use refusal::refusal_of;
 pub use refusal::{Refusal, RefusedAs, faulty, refused_status};
 pub use streams::{is_standard_input, is_standard_output};
-pub use values::{flag_at, text_at};
+pub use values::{flag_at, profile_at, text_at};
 pub(crate) use values::{are_given, are_many, number_at, text_given, texts_at, texts_given};
 pub use words::{CommandLine, line_in, not_text, words_given};

@@ -9,7 +9,7 @@ ghost use Rattle.teco_cli.specs.Conflict.{has_conflict};
 
 use crate::{
     Assignment, CommandLine, LineFault, Program, are_given, command_of, faulty, flag_at, number_at,
-    refusal_of, text_at, text_given, texts_at, texts_given,
+    profile_at, refusal_of, text_at, text_given, texts_at, texts_given,
 };
 use assigning::assignments_in;
 use backups::with_backups;
@@ -19,7 +19,7 @@ use joining::joined;
 use repeating::repeated_in;
 use std::alloc::Global;
 use table::options;
-use teco_core::NoMemory;
+use teco_core::{NoMemory, Profile};
 
 /// The most seconds that a command string may be given.
 pub const MOST_SECONDS: u64 = 1_000_000_000_000;
@@ -85,6 +85,8 @@ pub struct Line {
     pub explain: bool,
     /// Whether nothing is told on standard error of how a run ends.
     pub quiet: bool,
+    /// The language of the commands.
+    pub profile: Profile,
     /// What is put into registers before the first command string, in this order.
     pub values: Vec<Assignment>,
     /// The most command strings that are kept to be undone, from 1 to [`DEPTH_LIMIT`]; without it all are kept.
@@ -193,6 +195,7 @@ fn line_in<'a>(alloc: Global, matches: &ArgMatches<'a>) -> Result<Line, LineFaul
     let check = flag_at(matches, "check");
     let explain = flag_at(matches, "explain");
     let quiet = flag_at(matches, "quiet");
+    let profile = profile_at(matches);
     Ok(Line {
         input,
         more,
@@ -209,6 +212,7 @@ fn line_in<'a>(alloc: Global, matches: &ArgMatches<'a>) -> Result<Line, LineFaul
         check,
         explain,
         quiet,
+        profile,
         undo,
         page_lines,
     })

@@ -2,11 +2,11 @@
 ghost use Rattle.clap.specs.Words.{all_of, first_of, found_of, one_of, rows_of};
 ghost use Rattle.std.specs.Prelude.{[], ◌≡◌, ◌↔◌, IfOk, IfSome, IsTrue, Some, codes, length, map, nat_lt, option_map, unwrap_or};
 ghost use Rattle.std.specs.String.{string_bytes};
-ghost use Rattle.teco_cli.specs.Values.{IsNumber, number_of, text_behind, texts_behind};
+ghost use Rattle.teco_cli.specs.Values.{IsNumber, IsProfile, number_of, text_behind, texts_behind};
 
 use clap::ArgMatches;
 use std::alloc::Global;
-use teco_core::NoMemory;
+use teco_core::{NoMemory, Profile};
 
 /// A text of the line, where it is given.
 pub fn text_given(alloc: Global, text: Option<&str>) -> Result<Option<String>, NoMemory>
@@ -78,6 +78,17 @@ pub fn flag_at(matches: &ArgMatches, id: &str) -> bool
     ensures { IsTrue result ↔ (one_of id.now (rows_of (found_of matches.now)) ≡ Some (codes "true")) }
 {
     matches.get_one::<bool>(id).unwrap_or(false)
+}
+
+/// The language of the commands: the wider one if `--wide` is given.
+pub fn profile_at(matches: &ArgMatches) -> Profile
+    ensures { IsProfile (rows_of (found_of matches.now)) result }
+{
+    if flag_at(matches, "wide") {
+        Profile::Wide
+    } else {
+        Profile::Named
+    }
 }
 
 /// The number of an option, where it is given.

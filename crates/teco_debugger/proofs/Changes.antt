@@ -2,7 +2,7 @@
 use Rattle.std.proofs.Common.{◌≡◌, ℕ, ◌+◌, ◌-◌, ◌<◌, List, [], length, Option, Some, None, refl, sym, ◌∙◌, ap, subst, get_or, arith}
 use Rattle.std.specs.Prelude.{IfSome, IfNone}
 use Rattle.std.proofs.lemmas.Option.{none-some}
-use Rattle.teco_store.specs.State.{State, paged_beginning, state_at}
+use Rattle.teco_store.specs.State.{State, state_at}
 use Rattle.teco_undo.specs.Entry.{body_back}
 use Rattle.teco_undo.specs.Follows.{HasCome}
 use Rattle.teco_undo.specs.RecordLaws.{BackThenForth}
@@ -14,7 +14,7 @@ use Rattle.teco_session.proofs.Rewinding.{has_run}
 use Rattle.teco_session.proofs.Sessions.{at_self}
 use Rattle.teco_session.proofs.Turning.{Turned, present_is, session_back}
 use Rattle.teco_debugger.specs.Finding.{IsAsNowFrom, last_change}
-use Rattle.teco_debugger.specs.Walk.{IsWalk, after_all, base, before_last, kept_walk, meant, walked}
+use Rattle.teco_debugger.specs.Walk.{IsWalk, after_all, base, before_last, kept_walk, meant, walk_first, walked}
 use Rattle.teco_debugger.specs.declared.part.Part.{Part}
 use Rattle.teco_debugger.specs.declared.walk.Walk.TheInside.{Inside}
 use Rattle.teco_debugger.proofs.Returning.{last_at}
@@ -49,7 +49,7 @@ has_come law s first before text n ok came =
 
 walk_come : BackThenForth → (w : Inside) → IsWalk w → IsSession w.session
     → HasCome w.session.editor (kept_walk w).changes w.steps (trail_of (base (kept_walk w)) w.text.items 0 w.steps)
-walk_come law w walk ok = has_come law w.session (paged_beginning w.lines w.input.items) (before_last (history_of w.session)) w.text.items w.steps ok walk.came
+walk_come law w walk ok = has_come law w.session (walk_first w) (before_last (history_of w.session)) w.text.items w.steps ok walk.came
 
 pub as_now : BackThenForth → (part : Part) (w : Inside) (r : Option ℕ) → IsWalk w → IsSession w.session → r ≡ last_change part (kept_walk w).changes
     → IfSome r (λ n. IsAsNowFrom (n + 1) part (kept_walk w))

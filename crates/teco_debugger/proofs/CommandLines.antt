@@ -2,9 +2,11 @@
 use Rattle.std.proofs.Common.{◌≡◌, ◌∙◌, ℕ, true, refl, sym, ap, subst, min, inl, inr, codes, List, [], Option, Some, None, Result, Ok, Err}
 use Rattle.std.specs.Prelude.{unwrap_or, IfErr, IfOk, OnOk}
 use Rattle.std.specs.Str.Parse.{ParsesUnsigned}
+use Rattle.teco_core.specs.declared.profile.Profile.{Profile}
 use Rattle.clap.specs.Words.{App, HasMatchesOf, ReadsOne, Row, Text, fault_of, found_of, one_of, is_simple, is_simple_and_free, matches_of, rows_of}
 use Rattle.clap.specs.declared.parser.matches.ArgMatches.{ArgMatches}
 use Rattle.teco_cli.specs.Parsing.{IsUnparsed}
+use Rattle.teco_cli.specs.Values.{IsProfile}
 use Rattle.teco_cli.specs.declared.fault.LineFault.{LineFault}
 use Rattle.teco_cli.specs.declared.fault.LineFault.TheVariants.{NoMemory, Refused}
 use Rattle.teco_debugger.specs.CommandLine.{HasTexts, IsLimit, IsMisgiven, IsNumberIn, LacksLine, LineHas, WordsSay, WordsSayNone, debug_app, fault_in, origin_of}
@@ -44,27 +46,28 @@ no_line words (Refused refusal) h = inl h
 
 -- ---- what the texts of a parse give
 
-pub has_line : (rows : List Row) (r : Result DebuggerLine LineFault) (t : Texts) (number : Option ℕ) (limit : ℕ) → HasTexts rows t
-    → IsNumberIn (one_of (codes "string") rows) number → IsLimit (one_of (codes "limit") rows) limit
-    → IfOk r (λ line. line.limit ≡ limit) → OnOk r (fault_in t number ≡ None)
+pub has_line : (rows : List Row) (r : Result DebuggerLine LineFault) (p : Profile) (t : Texts) (number : Option ℕ) (limit : ℕ) → IsProfile rows p
+    → HasTexts rows t → IsNumberIn (one_of (codes "string") rows) number → IsLimit (one_of (codes "limit") rows) limit
+    → IfOk r (λ line. line.limit ≡ limit) → IfOk r (λ line. line.profile ≡ p) → OnOk r (fault_in p t number ≡ None)
     → IfOk r (λ line. line.origin ≡ origin_of t.session t.bytes t.files t.word number) → IfOk r (λ line. line.input ≡ t.input) → IfOk r (LineHas rows)
-has_line rows (Err fault) t number limit texts is_number is l fits o i = tt
-has_line rows (Ok line) t number limit texts is_number is l fits o i = record {
+has_line rows (Err fault) p t number limit is_profile texts is_number is l q fits o i = tt
+has_line rows (Ok line) p t number limit is_profile texts is_number is l q fits o i = record {
   texts = t;
   texts_are = texts;
   number = number;
   number_is = is_number;
-  fits = fits;
+  profile = subst (IsProfile rows) (sym q) is_profile;
+  fits = subst (λ p. fault_in p t number ≡ None) (sym q) fits;
   limit = subst (IsLimit (one_of (codes "limit") rows)) (sym l) is;
   origin = o;
   input = i;
 }
 
-pub read_fault : (rows : List Row) (r : Result DebuggerLine LineFault) (t : Texts) (number : Option ℕ) → HasTexts rows t
-    → IsNumberIn (one_of (codes "string") rows) number → IfErr r (IsMisgiven t number) → IfErr r (LacksLine rows)
-read_fault rows (Ok line) t number texts is_number h = tt
-read_fault rows (Err NoMemory) t number texts is_number h = tt
-read_fault rows (Err (Refused refusal)) t number texts is_number h = (t, texts, number, is_number, h)
+pub read_fault : (rows : List Row) (r : Result DebuggerLine LineFault) (p : Profile) (t : Texts) (number : Option ℕ) → IsProfile rows p → HasTexts rows t
+    → IsNumberIn (one_of (codes "string") rows) number → IfErr r (IsMisgiven p t number) → IfErr r (LacksLine rows)
+read_fault rows (Ok line) p t number is_profile texts is_number h = tt
+read_fault rows (Err NoMemory) p t number is_profile texts is_number h = tt
+read_fault rows (Err (Refused refusal)) p t number is_profile texts is_number h = (p, is_profile, t, texts, number, is_number, h)
 
 module _ (app : App) (is : app ≡ debug_app) where
   -- the words are not read

@@ -7,6 +7,7 @@ use Rattle.std.specs.String.{string_bytes}
 use Rattle.teco_fs.specs.Disk.{Files}
 use Rattle.teco_fs.specs.Reading.{IsInput}
 use Rattle.teco_fs.specs.Seen.{DiskSeen, KeepsDisk}
+use Rattle.teco_core.specs.declared.profile.Profile.{Profile}
 use Rattle.teco_debugger.specs.Begun.{BeginsFrom, CannotRead, IsOver, LacksString}
 use Rattle.teco_debugger.specs.Reading.{AddsFiles, AddsSource, IsNotRead, IsOfBytes, IsOfSources, IsUnreadable, LacksEach, LacksFile, InputIsMissing}
 use Rattle.teco_debugger.specs.declared.running.Begun.{Begun}
@@ -83,18 +84,18 @@ input_lacks files mid new line (Ok x) same h = tt
 input_lacks files mid new line (Err ending) same h = cannot_read_input files mid new line ending same h
 
 -- what a run begins with, over a string that was read
-pub over_sources : (files mid : Option Files) (origin : Origin) (names : Vec (String Global) Global) (word input : Option (String Global)) (given : Given) (r : Result Begun Ending)
-    → origin ≡ Sources names word → mid ≡ files → IsOfSources files names.items (option_map string_bytes word) given → IfOk r (IsOver mid input given)
-    → IfOk r (BeginsFrom files origin input)
-over_sources files mid origin names word input given (Err ending) is same string over = tt
-over_sources files mid origin names word input given (Ok begun) is same string over =
-    subst (λ o. BeginsFrom files o input begun) (sym is) (given, string, subst (λ fs. IsOver fs input given begun) same over)
+pub over_sources : (p : Profile) (files mid : Option Files) (origin : Origin) (names : Vec (String Global) Global) (word input : Option (String Global)) (given : Given) (r : Result Begun Ending)
+    → origin ≡ Sources names word → mid ≡ files → IsOfSources files names.items (option_map string_bytes word) given → IfOk r (IsOver p mid input given)
+    → IfOk r (BeginsFrom p files origin input)
+over_sources p files mid origin names word input given (Err ending) is same string over = tt
+over_sources p files mid origin names word input given (Ok begun) is same string over =
+    subst (λ o. BeginsFrom p files o input begun) (sym is) (given, string, subst (λ fs. IsOver p fs input given begun) same over)
 
-pub over_bytes : (files mid : Option Files) (origin : Origin) (name : String Global) (input : Option (String Global)) (given : Given) (r : Result Begun Ending)
-    → origin ≡ Bytes name → mid ≡ files → IsOfBytes files (string_bytes name) given → IfOk r (IsOver mid input given) → IfOk r (BeginsFrom files origin input)
-over_bytes files mid origin name input given (Err ending) is same string over = tt
-over_bytes files mid origin name input given (Ok begun) is same string over =
-    subst (λ o. BeginsFrom files o input begun) (sym is) (given, string, subst (λ fs. IsOver fs input given begun) same over)
+pub over_bytes : (p : Profile) (files mid : Option Files) (origin : Origin) (name : String Global) (input : Option (String Global)) (given : Given) (r : Result Begun Ending)
+    → origin ≡ Bytes name → mid ≡ files → IsOfBytes files (string_bytes name) given → IfOk r (IsOver p mid input given) → IfOk r (BeginsFrom p files origin input)
+over_bytes p files mid origin name input given (Err ending) is same string over = tt
+over_bytes p files mid origin name input given (Ok begun) is same string over =
+    subst (λ o. BeginsFrom p files o input begun) (sym is) (given, string, subst (λ fs. IsOver p fs input given begun) same over)
 
 -- what is lacked of one source is lacked of all
 pub lacks_file : {I : Type 0} (files mid : Option Files) (new : DiskSeen I) (names : List (String Global)) (number : ℕ) (name : String Global) → mid ≡ files

@@ -1,8 +1,7 @@
 -- The strings of a session that a file keeps.
 use Rattle.std.proofs.Common.{◌≡◌, ◌∙◌, ◌-◌, ◌++◌, ℕ, List, [], ◌∷◌, length, take, drop, Option, None, Result, Ok, Err, refl, ap, subst, arith}
 use Rattle.std.specs.Prelude.{IfErr}
-use Rattle.teco_store.specs.State.{paged_beginning}
-use Rattle.teco_session.specs.History.{History, new_paged_history, note_at}
+use Rattle.teco_session.specs.History.{History, note_at}
 use Rattle.teco_journal.specs.Events.{Event, ran, undid, redid, cut, forgot}
 use Rattle.teco_journal.specs.Files.{Holds}
 use Rattle.teco_journal.specs.Heads.{Beginning, file_of, first_check}
@@ -11,7 +10,7 @@ use Rattle.teco_journal.specs.Reading.{EndsAs}
 use Rattle.teco_journal.specs.declared.reader.Ending.{Ending as JournalEnding}
 use Rattle.teco_replay.specs.Told.{after_event, after_events}
 use Rattle.teco_replay.proofs.Firsts.{first_without_depth}
-use Rattle.teco_debugger.specs.Kept.{HasRecordsTo, IsWalkAt, cursor_at, whole_history}
+use Rattle.teco_debugger.specs.Kept.{HasRecordsTo, IsWalkAt, begun_by, cursor_at, history_before, whole_history}
 use Rattle.teco_debugger.specs.Walk.{KeptWalk}
 use Rattle.teco_fs.specs.Disk.{Files}
 use Rattle.teco_fs.specs.Reading.{IsInput}
@@ -22,8 +21,8 @@ use Rattle.teco_debugger.specs.declared.ending.Ending.TheVariants.{Caret, Done, 
 use Rattle.teco_debugger.proofs.Lengths.{rest_length}
 
 -- a session that is run again begins as its file says, and keeps every string
-pub told_first : (beginning : Beginning) (events : List Event) → (whole_history beginning events).first ≡ paged_beginning beginning.lines beginning.input
-told_first beginning events = first_without_depth (paged_beginning beginning.lines beginning.input) events
+pub told_first : (beginning : Beginning) (events : List Event) → (whole_history beginning events).first ≡ begun_by beginning
+told_first beginning events = first_without_depth (begun_by beginning) events
 
 depth_stays : (h : History) (events : List Event) → h.depth ≡ None → (after_events h events).depth ≡ None
 unfolding after_events
@@ -38,7 +37,7 @@ depth_stays h (e ∷ events) none = depth_stays (after_event h e) events (one e)
     one forgot = none
 
 pub told_depth : (beginning : Beginning) (events : List Event) → (whole_history beginning events).depth ≡ None
-told_depth beginning events = depth_stays (new_paged_history beginning.lines None beginning.input) events refl
+told_depth beginning events = depth_stays (history_before beginning) events refl
 
 -- what was read of a file
 pub has_lines_to : (bytes check : List ℕ) (beginning : Beginning) (events : List Event) (good : ℕ) (ending : JournalEnding)

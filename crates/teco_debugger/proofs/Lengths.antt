@@ -21,7 +21,7 @@ input_in_lines n beginning p =
 
 input_in_head : (n : ℕ) (beginning : Beginning) → n ≤ length beginning.input → n ≤ length (head_of beginning)
 unfolding head_of
-input_in_head n beginning p = back_shorter n version (start_lines beginning) (input_in_lines n beginning p)
+input_in_head n beginning p = back_shorter n (version beginning.profile) (start_lines beginning) (input_in_lines n beginning p)
 
 pub input_fits : (bytes items rest : List ℕ) (beginning : Beginning) (events : List Event) (most : ℕ) → bytes ≡ items
     → bytes ≡ file_of beginning events ++ rest → length items ≤ most → length beginning.input ≤ most

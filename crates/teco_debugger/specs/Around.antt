@@ -1,10 +1,11 @@
 -- The lines of a text around the one of a step, with their numbers.
 use Rattle.std.specs.Prelude.{ℕ, zero, suc, ◌+◌, ◌-◌, ◌==◌, List, [], ◌++◌, length, take, drop, min, max, replicate, slice_range, codes, nat_lt, if◌then◌else◌, Option, Some, None}
 use Rattle.std.specs.Fmt.{decimal}
+use Rattle.teco_core.specs.declared.profile.Profile.{Profile}
 use Rattle.teco_exec.specs.declared.place.Place.{Place}
 use Rattle.teco_messages.specs.Spelling.{spelled}
 use Rattle.teco_messages.specs.Spot.{spot_of}
-use Rattle.teco_debugger.specs.Walk.{KeptWalk}
+use Rattle.teco_debugger.specs.Walk.{KeptWalk, state_there}
 use Rattle.teco_debugger.specs.Showing.{innermost, line_end_of, line_start_of, mark_shown, step_shown}
 use Rattle.teco_debugger.specs.Sources.{shown_name, shown_string}
 use Rattle.teco_debugger.specs.declared.around.TheConstants.{MARGIN, MOST_AROUND}
@@ -47,25 +48,25 @@ abbrev pub line_number : List ℕ → ℕ → ℕ
 line_number text at = (spot_of text at).line
 
 -- the line of a place with its number, and carets under as much of the token as is in the line
-unfoldable pub marked_numbered : List ℕ → ℕ → List ℕ
-marked_numbered text at =
+unfoldable pub marked_numbered : Profile → List ℕ → ℕ → List ℕ
+marked_numbered p text at =
     numbered_line (line_number text at) (slice_range text (line_start_of text at) (line_end_of text at))
-    ++ (replicate (length (number_shown (line_number text at))) (code " ") ++ (mark_shown text at ++ codes "\n"))
+    ++ (replicate (length (number_shown (line_number text at))) (code " ") ++ (mark_shown p text at ++ codes "\n"))
 
 -- the n lines before that of a place, that one with its token marked, and the n after it
-unfoldable pub lines_around : List ℕ → ℕ → ℕ → List ℕ
-lines_around text at n =
+unfoldable pub lines_around : Profile → List ℕ → ℕ → ℕ → List ℕ
+lines_around p text at n =
     numbered_lines text (line_number text at - 1 - n) (min n (line_number text at - 1))
-    ++ (marked_numbered text at ++ numbered_lines text (line_number text at) n)
+    ++ (marked_numbered p text at ++ numbered_lines text (line_number text at) n)
 
 -- nothing of a text that has no such place
-abbrev pub around_place : List ℕ → ℕ → ℕ → List ℕ
-around_place text at n = if nat_lt (length text) at then [] else lines_around text at n
+abbrev pub around_place : Profile → List ℕ → ℕ → ℕ → List ℕ
+around_place p text at n = if nat_lt (length text) at then [] else lines_around p text at n
 
 -- at most 1000 lines each way
 abbrev pub around_there : KeptWalk → List ℕ → Option Place → ℕ → List ℕ
 around_there w string None n = []
-around_there w string (Some place) n = around_place (innermost w string place) place.at (min n MOST_AROUND)
+around_there w string (Some place) n = around_place (state_there w).profile (innermost w string place) place.at (min n MOST_AROUND)
 
 -- the step, and the lines of its text around its own
 abbrev pub around_shown : KeptWalk → List ℕ → List ℕ → Seen → ℕ → List ℕ

@@ -1,5 +1,5 @@
 -- What the command line says: teco-debug [OPTIONS] [INPUT]
-use Rattle.std.specs.Prelude.{◌≡◌, ◌⊎◌, ⊤, ℕ, Bool, ◌||◌, ◌&&◌, not, nat_lt, if◌then◌else◌, List, [], ◌∷◌, codes, is_some, length, map, min, Option, Some, None, option_map, false}
+use Rattle.std.specs.Prelude.{◌≡◌, ◌⊎◌, ⊤, ℕ, Bool, ◌||◌, ◌&&◌, not, nat_lt, if◌then◌else◌, List, [], ◌∷◌, codes, is_some, length, map, min, Option, Some, None, option_map, true, false}
 use Rattle.std.specs.declared.alloc.Global.{Global}
 use Rattle.std.specs.declared.string.String.{String}
 use Rattle.std.specs.declared.vec.Vec.{Vec}
@@ -7,14 +7,16 @@ use Rattle.std.specs.String.{string_bytes}
 use Rattle.clap.specs.Words.{App, IsAmong, Row, Rule, Text, fault_of, first_of, matches_of, one_of, takes}
 use Rattle.clap.specs.declared.error.kind.ErrorKind.{ErrorKind}
 use Rattle.clap.specs.declared.error.kind.ErrorKind.TheVariants as kind
-use Rattle.teco_cli.specs.Values.{IsNumber, number_of}
+use Rattle.teco_cli.specs.Values.{IsNumber, IsProfile, number_of}
 use Rattle.teco_cli.specs.Options.{option_texts}
 use Rattle.teco_cli.specs.Parsing.{program_app}
-use Rattle.teco_cli.specs.OptionTable.{operand, with_number, with_rules, with_text, with_texts}
+use Rattle.teco_cli.specs.OptionTable.{flag, operand, with_number, with_rules, with_text, with_texts}
 use Rattle.teco_cli.specs.Refusals.{IsFaulty, IsToldAs}
 use Rattle.teco_cli.specs.declared.fault.LineFault.{LineFault}
 use Rattle.teco_cli.specs.declared.fault.LineFault.TheVariants as line_fault
 use Rattle.teco_cli.specs.declared.options.Takes.TheVariants.{MaybeOperand}
+use Rattle.teco_core.specs.declared.profile.Profile.{Profile}
+use Rattle.teco_core.specs.declared.profile.Profile.TheVariants.{Named, Wide}
 use Rattle.teco_debugger.specs.declared.line.DebuggerLine.{DebuggerLine}
 use Rattle.teco_debugger.specs.declared.line.Origin.{Origin}
 use Rattle.teco_debugger.specs.declared.line.Origin.TheVariants.{Sources, Bytes, Session}
@@ -28,6 +30,7 @@ debug_rules = with_text (codes "execute") (Some 101)
     ∷ with_text (codes "session") None
     ∷ with_number (codes "string") None 1 1000000000000
     ∷ with_number (codes "limit") None 0 1000000000000
+    ∷ flag (codes "wide") None
     ∷ operand MaybeOperand (codes "input")
     ∷ []
 
@@ -59,12 +62,17 @@ pub record HasTexts (rows : List Row) (texts : Texts) : Type 0 where
 abbrev pub gives_sources : Texts → Bool
 gives_sources texts = is_some texts.word || nat_lt 0 (length texts.files.items)
 
--- Beside --session nothing else gives a string or an input. Without it one thing gives a string, and no number of one is given.
+-- --wide is given
+abbrev pub says_wide : Profile → Bool
+says_wide Named = false
+says_wide Wide = true
+
+-- Beside --session nothing else gives a string, an input or a language. Without it one thing gives a string, and no number of one is given.
 -- Why a line is faulty by that, if it is.
-abbrev pub fault_in : Texts → Option ℕ → Option Text
-fault_in texts number =
-    if is_some texts.session then (if gives_sources texts || (is_some texts.bytes || is_some texts.input)
-    then Some (codes "the argument '--session <FILE>' cannot be used with '--execute <STRINGS>', '--file <FILE>', '--bytes <FILE>' or INPUT") else None)
+abbrev pub fault_in : Profile → Texts → Option ℕ → Option Text
+fault_in p texts number =
+    if is_some texts.session then (if (gives_sources texts || is_some texts.bytes) || (is_some texts.input || says_wide p)
+    then Some (codes "the argument '--session <FILE>' cannot be used with '--execute <STRINGS>', '--file <FILE>', '--bytes <FILE>', '--wide' or INPUT") else None)
     else (if gives_sources texts && is_some texts.bytes
     then Some (codes "the argument '--bytes <FILE>' cannot be used with '--file <FILE>' or '--execute <STRINGS>'")
     else (if not (gives_sources texts) && not (is_some texts.bytes)
@@ -83,7 +91,8 @@ pub record LineHas (rows : List Row) (line : DebuggerLine) : Type 0 where
   pub texts_are : HasTexts rows texts
   pub number : Option ℕ
   pub number_is : IsNumberIn (one_of (codes "string") rows) number
-  pub fits : fault_in texts number ≡ None
+  pub profile : IsProfile rows line.profile
+  pub fits : fault_in line.profile texts number ≡ None
   pub limit : IsLimit (one_of (codes "limit") rows) line.limit
   pub origin : line.origin ≡ origin_of texts.session texts.bytes texts.files texts.word number
   pub input : line.input ≡ texts.input
@@ -106,14 +115,14 @@ IsToldFaulty why line_fault.NoMemory = ⊤
 IsToldFaulty why (line_fault.Refused refusal) = IsFaulty why (codes "teco-debug [OPTIONS] [INPUT]") refusal
 
 -- Such a line is faulty, and is told so.
-abbrev pub IsMisgiven : Texts → Option ℕ → LineFault → Type 0
-IsMisgiven texts number fault = (why : Text) × (fault_in texts number ≡ Some why) × IsToldFaulty why fault
+abbrev pub IsMisgiven : Profile → Texts → Option ℕ → LineFault → Type 0
+IsMisgiven p texts number fault = (why : Text) × (fault_in p texts number ≡ Some why) × IsToldFaulty why fault
 
 -- The parse gives no line: memory was refused, or it is misgiven.
 abbrev pub LacksLine : List Row → LineFault → Type 0
 LacksLine rows line_fault.NoMemory = ⊤
-LacksLine rows (line_fault.Refused refusal) = (texts : Texts) × HasTexts rows texts × (number : Option ℕ)
-    × IsNumberIn (one_of (codes "string") rows) number × IsMisgiven texts number (line_fault.Refused refusal)
+LacksLine rows (line_fault.Refused refusal) = (p : Profile) × IsProfile rows p × (texts : Texts) × HasTexts rows texts
+    × (number : Option ℕ) × IsNumberIn (one_of (codes "string") rows) number × IsMisgiven p texts number (line_fault.Refused refusal)
 
 -- Why the words gave no line: memory was refused; or the parser refuses them for such an error, and that is told as what it is; or
 -- the parser takes them, and they are misgiven.

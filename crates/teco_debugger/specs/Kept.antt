@@ -12,8 +12,10 @@ use Rattle.teco_journal.specs.Reading.{EndsAs}
 use Rattle.teco_journal.specs.declared.head_reader.HeadFault.TheVariants as head
 use Rattle.teco_journal.specs.declared.reader.Ending.{Ending as JournalEnding}
 use Rattle.teco_journal.specs.declared.reader.Ending.TheVariants as end
+use Rattle.teco_replay.specs.Begun.{begun_history, begun_state}
 use Rattle.teco_replay.specs.Told.{AllHappen, after_events}
-use Rattle.teco_session.specs.History.{History, new_paged_history, note_at}
+use Rattle.teco_session.specs.History.{History, note_at}
+use Rattle.teco_store.specs.State.{State}
 use Rattle.teco_debugger.specs.Reading.{IsNotRead}
 use Rattle.teco_debugger.specs.Walk.{KeptWalk}
 use Rattle.teco_debugger.specs.declared.ending.Ending.{Ending}
@@ -40,9 +42,17 @@ pub record HasRecordsTo (beginning : Beginning) (events : List Event) (torn : �
 abbrev pub HasRecords : Beginning → List Event → ℕ → List ℕ → Type 0
 HasRecords beginning events torn bytes = (ending : JournalEnding) × (is_good ending ≡ true) × HasRecordsTo beginning events torn ending bytes
 
+-- the state with which the session of a file begins
+abbrev pub begun_by : Beginning → State
+begun_by beginning = begun_state beginning.profile beginning.lines beginning.input
+
+-- its history before the first string, without the bound of its depth
+abbrev pub history_before : Beginning → History
+history_before beginning = begun_history beginning.profile beginning.lines None beginning.input
+
 -- The history of all strings that a file tells, also of those that a depth has let go.
 abbrev pub whole_history : Beginning → List Event → History
-whole_history beginning events = after_events (new_paged_history beginning.lines None beginning.input) events
+whole_history beginning events = after_events (history_before beginning) events
 
 abbrev pub cursor_at : History → ℕ → History
 cursor_at h i = record h { cursor = i }
@@ -92,7 +102,7 @@ LacksBytes bytes number fault.Version = HeadFails bytes head.Version
 LacksBytes bytes number fault.Head = HeadFails bytes head.Changed
 LacksBytes bytes number (fault.Changed line) = IsChangedAt bytes line
 LacksBytes bytes number fault.Replay = (beginning : Beginning) × (events : List Event) × (torn : ℕ) × HasRecords beginning events torn bytes
-    × (AllHappen (new_paged_history beginning.lines None beginning.input) events → ⊥)
+    × (AllHappen (history_before beginning) events → ⊥)
 LacksBytes bytes number fault.NoStrings = HeadFails bytes head.Torn
     ⊎ ((beginning : Beginning) × (events : List Event) × (torn : ℕ) × HasRecords beginning events torn bytes
     × LacksPlace number (whole_history beginning events) fault.NoStrings)
@@ -107,7 +117,7 @@ LacksWalk bytes number _ = ⊥
 
 -- Why a session is not run again: its events cannot have happened, or memory was refused.
 abbrev pub LacksRun : Beginning → List Event → Ending → Type 0
-LacksRun beginning events (NoString fault.Replay) = AllHappen (new_paged_history beginning.lines None beginning.input) events → ⊥
+LacksRun beginning events (NoString fault.Replay) = AllHappen (history_before beginning) events → ⊥
 LacksRun beginning events NoMemory = Unit {0}
 LacksRun beginning events _ = ⊥
 

@@ -5,6 +5,8 @@ use Rattle.std.specs.List.{flat_map}
 use Rattle.teco_core.specs.Register.{Content, content, register_of}
 use Rattle.teco_core.specs.declared.case_mode.CaseMode.{CaseMode}
 use Rattle.teco_core.specs.declared.case_mode.CaseMode.TheVariants.{Either, Exact}
+use Rattle.teco_core.specs.declared.profile.Profile.{Profile}
+use Rattle.teco_core.specs.declared.profile.Profile.TheVariants.{Named, Wide}
 use Rattle.teco_step.specs.Line.{line}
 use Rattle.teco_store.specs.State.{State}
 use Rattle.teco_messages.specs.Placed.{register_name}
@@ -97,6 +99,11 @@ unfoldable pub case_shown : CaseMode → List ℕ
 case_shown Exact = codes "searches tell the cases of a letter apart\n"
 case_shown Either = []
 
+-- the language, where it is the wider one
+unfoldable pub language_shown : Profile → List ℕ
+language_shown Named = []
+language_shown Wide = codes "strings are read in the wider language\n"
+
 -- where the pointer is, in how long a text
 unfoldable pub pointer_shown : ℕ → ℕ → List ℕ
 pointer_shown pointer len = codes "pointer " ++ decimal pointer ++ codes " of " ++ decimal len ++ codes "\n"
@@ -135,4 +142,4 @@ flags_shown s = page_end_shown s ++ mode_shown s ++ done_shown s
 
 -- the rest of the state
 unfoldable pub state_shown : State → List ℕ
-state_shown s = sizes_shown s ++ last_search_shown s ++ flags_shown s
+state_shown s = sizes_shown s ++ last_search_shown s ++ language_shown s.profile ++ flags_shown s

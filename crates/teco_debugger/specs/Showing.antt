@@ -4,6 +4,7 @@ use Rattle.std.specs.Fmt.{decimal}
 use Rattle.std.specs.List.{after_last, before_first, flat_map}
 use Rattle.teco_core.specs.declared.code.Code.{Code}
 use Rattle.teco_core.specs.declared.code.Code.TheVariants.{Lim}
+use Rattle.teco_core.specs.declared.profile.Profile.{Profile}
 use Rattle.teco_exec.specs.declared.place.Call.{Call}
 use Rattle.teco_exec.specs.declared.place.Place.{Place}
 use Rattle.teco_messages.specs.Placed.{call_shown, standing_shown, text_under}
@@ -28,7 +29,7 @@ abbrev pub place_there : KeptWalk → List ℕ → Option Place → List ℕ
 place_there w string None = codes "the end"
 place_there w string (Some place) =
     standing_shown place (state_there w).registers string ++ codes ", "
-    ++ spelled (token_in (innermost w string place) place.at MOST_FAULTY)
+    ++ spelled (token_in (state_there w).profile (innermost w string place) place.at MOST_FAULTY)
 
 -- a code, but not that of the walk's own limit
 abbrev pub code_there : Option Code → List ℕ
@@ -58,8 +59,8 @@ abbrev pub line_end_of : List ℕ → ℕ → ℕ
 line_end_of text at = at + length (before_first is_newline (drop at text))
 
 -- how many bytes of the token are in the line
-abbrev pub token_within : List ℕ → ℕ → ℕ
-token_within text at = min (length (token_in text at MOST_FAULTY)) (line_end_of text at - at)
+abbrev pub token_within : Profile → List ℕ → ℕ → ℕ
+token_within p text at = min (length (token_in p text at MOST_FAULTY)) (line_end_of text at - at)
 
 -- carets below these bytes as they are spelled, and one at least
 abbrev pub carets : List ℕ → List ℕ
@@ -74,16 +75,16 @@ line_shown text at =
     codes "    " ++ (spelled (slice_range text (line_start_of text at) (line_end_of text at)) ++ codes "\n    ")
 
 -- carets under as much of the token as is in the line
-unfoldable pub mark_shown : List ℕ → ℕ → List ℕ
-mark_shown text at =
-    blanks (slice_range text (line_start_of text at) at) ++ carets (slice_range text at (at + token_within text at))
+unfoldable pub mark_shown : Profile → List ℕ → ℕ → List ℕ
+mark_shown p text at =
+    blanks (slice_range text (line_start_of text at) at) ++ carets (slice_range text at (at + token_within p text at))
 
-abbrev pub marked_line : List ℕ → ℕ → List ℕ
-marked_line text at = line_shown text at ++ (mark_shown text at ++ codes "\n")
+abbrev pub marked_line : Profile → List ℕ → ℕ → List ℕ
+marked_line p text at = line_shown text at ++ (mark_shown p text at ++ codes "\n")
 
 -- nothing of a text that has no such place
-abbrev pub line_there : List ℕ → ℕ → List ℕ
-line_there text at = if nat_lt (length text) at then [] else marked_line text at
+abbrev pub line_there : Profile → List ℕ → ℕ → List ℕ
+line_there p text at = if nat_lt (length text) at then [] else marked_line p text at
 
 -- how many turns an iteration has left; any number of one without a count
 abbrev pub turn_shown : Option ℕ → List ℕ
@@ -118,7 +119,7 @@ call_lines w string place (suc k) = call_lines w string place k ++ call_line w s
 abbrev pub lines_there : KeptWalk → List ℕ → Option Place → List ℕ
 lines_there w string None = []
 lines_there w string (Some place) =
-    line_there (innermost w string place) place.at ++ here_shown place.turns.items
+    line_there (state_there w).profile (innermost w string place) place.at ++ here_shown place.turns.items
     ++ call_lines w string place (length place.calls.items)
 
 -- the step, the line with its token marked, the open iterations and calls

@@ -3,9 +3,10 @@ use Rattle.std.specs.Prelude.{◌≡◌, ℕ, ◌+◌, ◌-◌, ◌≤◌, Bool,
 use Rattle.teco_core.specs.declared.code.Code.{Code}
 use Rattle.teco_core.specs.declared.code.Code.TheVariants.{Mem, Tty}
 use Rattle.teco_core.specs.declared.limits.TheConstants.{FILE_LIMIT}
-use Rattle.teco_store.specs.State.{State, paged_beginning}
+use Rattle.teco_store.specs.State.{State}
 use Rattle.teco_store.specs.Turn.{Note}
 use Rattle.teco_exec.specs.StringMeaning.{StringMeaning, string_meaning}
+use Rattle.teco_replay.specs.Begun.{begun_state}
 use Rattle.teco_session.specs.History.{History, NotedString, state_after}
 use Rattle.teco_session.specs.Kept.{history_of, string_at}
 use Rattle.teco_debugger.specs.declared.walk.Walk.TheInside.{Inside}
@@ -52,9 +53,13 @@ walked first before text n = record {
 abbrev pub before_last : History → List NotedString
 before_last h = take (h.cursor - 1) h.notes
 
+-- the state with which the session of a walk begins
+abbrev pub walk_first : Inside → State
+walk_first w = begun_state w.opening.profile w.opening.lines w.opening.input.items
+
 abbrev pub kept_walk : Inside → KeptWalk
 kept_walk w = record {
-  first = paged_beginning w.lines w.input.items;
+  first = walk_first w;
   before = before_last (history_of w.session);
   text = w.text.items;
   steps = w.steps;
@@ -63,9 +68,8 @@ kept_walk w = record {
 
 -- The session has come so far by the string, from the strings before.
 pub record IsWalk (w : Inside) : Type 0 where
-  pub small : length w.input.items ≤ FILE_LIMIT
-  pub came : history_of w.session
-      ≡ walked (paged_beginning w.lines w.input.items) (before_last (history_of w.session)) w.text.items w.steps
+  pub small : length w.opening.input.items ≤ FILE_LIMIT
+  pub came : history_of w.session ≡ walked (walk_first w) (before_last (history_of w.session)) w.text.items w.steps
 
 -- two walks over the same string, after the same
 pub record SameString (w v : KeptWalk) : Type 0 where

@@ -7,8 +7,9 @@ use crate::showing::{innermost, push_many, show_mark, show_step};
 use crate::{Seen, Walk};
 use std::alloc::Global;
 use std::fmt::Write;
-use teco_core::NoMemory;
+use teco_core::{NoMemory, Profile};
 use teco_messages::{line_end, line_start, spell, spot_of};
+use teco_store::Desk;
 
 /// How many columns the number of a line takes, if it isn't longer.
 const MARGIN: usize = 5;
@@ -85,23 +86,29 @@ fn show_numbered_lines(out: &mut String, text: &[u8], from: u64, n: u64) -> Resu
 
 /// Shows the line of a place with its number, and marks below it as much of the token there as is in the line.
 #[tactic(auto, unfolding(crate::specs::Around::marked_numbered))]
-fn show_marked(out: &mut String, text: &[u8], at: usize) -> Result<(), NoMemory>
+fn show_marked(out: &mut String, profile: Profile, text: &[u8], at: usize) -> Result<(), NoMemory>
     requires { at ≤ length text.now }
-    ensures { OnOk result (string_bytes out.new ≡ string_bytes out.old ++ marked_numbered text.now at) }
+    ensures { OnOk result (string_bytes out.new ≡ string_bytes out.old ++ marked_numbered profile text.now at) }
 {
     let alloc = *out.allocator();
     let number = spot_of(text, at).line;
     let line = &text[line_start(text, at)..line_end(text, at)];
     show_numbered(out, number, line)?;
     push_many(out, b' ', number_shown(alloc, number)?.len())?;
-    show_mark(out, text, at)?;
+    show_mark(out, profile, text, at)?;
     out.push_str("\n")
 }
 
 /// Shows the `n` lines before that of a place, if the text has it, that one with its token marked, and the `n` after it.
-fn show_lines_around(out: &mut String, text: &[u8], at: usize, n: u64) -> Result<(), NoMemory>
+fn show_lines_around(
+    out: &mut String,
+    profile: Profile,
+    text: &[u8],
+    at: usize,
+    n: u64,
+) -> Result<(), NoMemory>
     requires { n ≤ 1000 }
-    ensures { OnOk result (string_bytes out.new ≡ string_bytes out.old ++ around_place text.now at n) }
+    ensures { OnOk result (string_bytes out.new ≡ string_bytes out.old ++ around_place profile text.now at n) }
 {
     if at > text.len() {
         return Ok(());
@@ -109,7 +116,7 @@ fn show_lines_around(out: &mut String, text: &[u8], at: usize, n: u64) -> Result
     let number = spot_of(text, at).line;
     let before = number - 1;
     show_numbered_lines(out, text, before.saturating_sub(n), n.min(before))?;
-    show_marked(out, text, at)?;
+    show_marked(out, profile, text, at)?;
     show_numbered_lines(out, text, number, n)
 }
 
@@ -129,6 +136,7 @@ pub fn show_around(
     match &seen.place {
         Some(place) => show_lines_around(
             out,
+            walk.editor().profile(),
             innermost(walk, string, place),
             place.at,
             n.min(MOST_AROUND),

@@ -1,20 +1,23 @@
 //! One string of the session that a file keeps.
-ghost use Rattle.std.specs.Prelude.{◌≡◌, ◌≤◌, ◌<◌, ◌-◌, ℕ, IfErr, IfOk, List, Option, length};
+ghost use Rattle.std.specs.Prelude.{◌≡◌, ◌≤◌, ◌<◌, ◌-◌, ℕ, IfErr, IfOk, List, Option, length, vec_len};
 ghost use Rattle.teco_core.specs.declared.limits.TheConstants.{FILE_LIMIT};
 ghost use Rattle.teco_fs.specs.Seen.{KeepsDisk, disk_seen};
 ghost use Rattle.teco_journal.specs.Events.{events_of};
 ghost use Rattle.teco_journal.specs.Files.{FileFails};
 ghost use Rattle.teco_journal.specs.Heads.{beginning_in};
+ghost use Rattle.teco_replay.specs.Begun.{begun_state};
 ghost use Rattle.teco_session.specs.Kept.{history_of};
-ghost use Rattle.teco_debugger.specs.Kept.{HasRecords, HasString, IsOfSession, IsPlace, IsWalkAt, LacksPlace, LacksRun, LacksSession, LacksWalk, cursor_at, is_good, whole_history};
+ghost use Rattle.teco_debugger.specs.Kept.{HasRecords, HasString, IsOfSession, IsPlace, IsWalkAt, LacksPlace, LacksRun, LacksSession, LacksWalk, begun_by, cursor_at, is_good, whole_history};
 
-use crate::Walk;
 use crate::ending::Ending;
 use crate::reading::read_file;
+use crate::{Opening, Walk};
 use std::alloc::Global;
 use teco_core::NoMemory;
 use teco_fs::Disk;
-use teco_journal::{Ending as JournalEnding, HeadFault, SessionFault, SessionFile, read_session};
+use teco_journal::{
+    Ending as JournalEnding, HeadFault, SessionFault, SessionFile, Start, read_session,
+};
 use teco_replay::{Quiet, ReplayFault, replay};
 use teco_session::Session;
 
@@ -81,6 +84,19 @@ fn file_in(alloc: Global, bytes: &[u8]) -> Result<SessionFile<'_>, Ending>
     Ok(file)
 }
 
+/// What a session's file says that it begins with.
+fn opening_in(alloc: Global, start: &Start<'_>) -> Result<Opening, NoMemory>
+    requires { length start.now.input.now ≤ FILE_LIMIT }
+    ensures first { IfOk result (λ opening. begun_state opening.profile opening.lines opening.input.items ≡ begun_by (beginning_in start.now)) }
+    ensures small { IfOk result (λ opening. vec_len opening.input ≤ FILE_LIMIT) }
+{
+    Ok(Opening {
+        profile: start.profile,
+        lines: start.lines,
+        input: Vec::from_slice(alloc, start.input)?,
+    })
+}
+
 /// The session that the file holds, without the bound of its depth.
 fn session_in(alloc: Global, file: &SessionFile<'_>) -> Result<Session, Ending>
     requires { length file.now.start.input.now ≤ FILE_LIMIT }
@@ -88,8 +104,7 @@ fn session_in(alloc: Global, file: &SessionFile<'_>) -> Result<Session, Ending>
         ≡ whole_history (beginning_in file.now.start) (events_of file.now.journal.records.items)) }
     ensures lacks { IfErr result (LacksRun (beginning_in file.now.start) (events_of file.now.journal.records.items)) }
 {
-    let input = Vec::from_slice(alloc, file.start.input)?;
-    let mut session = Session::with_pages(input, file.start.lines, None)?;
+    let mut session = opening_in(alloc, &file.start)?.session()?;
     match replay(&mut session, file.journal.records.as_slice(), &mut Quiet) {
         Ok(()) => Ok(session),
         Err(ReplayFault::Wrong) => Err(Ending::NoString(StringFault::Replay)),
@@ -151,11 +166,11 @@ fn walk_at(
 {
     // This shows that the history has as many strings as the session.
     let _strings = session.strings();
-    let input = Vec::from_slice(alloc, file.start.input)?;
+    let opening = opening_in(alloc, &file.start)?;
     let text = Vec::from_slice(alloc, session.string(i))?;
     back_to(&mut session, i);
     on_to(&mut session, i);
-    Walk::over(input, file.start.lines, text, session)
+    Walk::over(opening, text, session)
 }
 
 /// A walk over the string of this number in the session that some bytes keep.

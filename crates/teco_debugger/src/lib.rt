@@ -16,6 +16,7 @@ mod listing;
 mod marks;
 mod moving;
 mod number;
+mod opening;
 mod part;
 mod reading;
 mod running;
@@ -33,6 +34,7 @@ mod watching;
 
 pub(crate) use command::{CommandFault, DebuggerCommand};
 pub use line::DebuggerLine;
+pub(crate) use opening::Opening;
 pub(crate) use part::Part;
 pub use running::program;
 pub(crate) use sources::{Shown, SourceText};

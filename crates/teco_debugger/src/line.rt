@@ -4,13 +4,15 @@ ghost use Rattle.std.specs.Prelude.{◌≡◌, ◌≤◌, IfErr, IfOk, None, OnO
 ghost use Rattle.std.specs.String.{string_bytes};
 ghost use Rattle.teco_cli.specs.OptionTable.{rule_by};
 ghost use Rattle.teco_cli.specs.Values.{text_behind};
-ghost use Rattle.teco_debugger.specs.CommandLine.{IsLimit, IsMisgiven, IsNumberIn, IsToldFaulty, LacksLine, LineHas, WordsSay, WordsSayNone, debug_rules, fault_in, origin_of};
+ghost use Rattle.teco_debugger.specs.CommandLine.{IsLimit, IsMisgiven, IsNumberIn, IsToldFaulty, LacksLine, LineHas, WordsSay, WordsSayNone, debug_rules, fault_in, says_wide, origin_of};
 
 use crate::arguments::{Texts, texts_in};
 use clap::ArgMatches;
 use std::alloc::Global;
-use teco_cli::{CommandLine, LineFault, MOST_STEPS, OptionRow, Program, Takes, faulty, parsed};
-use teco_core::NoMemory;
+use teco_cli::{
+    CommandLine, LineFault, MOST_STEPS, OptionRow, Program, Takes, faulty, parsed, profile_at,
+};
+use teco_core::{NoMemory, Profile};
 
 /// The steps that the string is given if the line says nothing.
 const STEPS: u64 = 1_000_000;
@@ -28,7 +30,7 @@ const MANY: &str =
 
 /// What is told of one that gives it as a string of a session, and more.
 const BESIDE: &str =
-    "the argument '--session <FILE>' cannot be used with '--execute <STRINGS>', '--file <FILE>', '--bytes <FILE>' or INPUT";
+    "the argument '--session <FILE>' cannot be used with '--execute <STRINGS>', '--file <FILE>', '--bytes <FILE>', '--wide' or INPUT";
 
 /// What is told of one that gives the number of a string, and no session.
 const ALONE: &str = "the argument '--string <N>' needs '--session <FILE>'";
@@ -49,6 +51,8 @@ pub enum Origin {
 pub struct DebuggerLine {
     /// The most steps of the string, at most [`MOST_STEPS`].
     pub limit: u64,
+    /// The language of the string, if it is of no session.
+    pub profile: Profile,
     /// Where the string comes from.
     pub origin: Origin,
     /// The file of the input, if one is given.
@@ -64,7 +68,7 @@ static PROGRAM: Program = Program {
 };
 
 /// Every option, in the order of the help, and then the input.
-static ARGUMENTS: [OptionRow; 7] = [
+static ARGUMENTS: [OptionRow; 8] = [
     OptionRow {
         name: "execute",
         short: Some('e'),
@@ -108,6 +112,13 @@ static ARGUMENTS: [OptionRow; 7] = [
         help: "The most steps of the string, at most 1000000000000; 1000000 without it",
     },
     OptionRow {
+        name: "wide",
+        short: None,
+        takes: Takes::Nothing,
+        value: "",
+        help: "Reads the string in the wider language of old macros",
+    },
+    OptionRow {
         name: "input",
         short: None,
         takes: Takes::MaybeOperand,
@@ -140,14 +151,22 @@ fn faulty_line(alloc: Global, why: &str) -> LineFault
     }
 }
 
-/// Why a line is faulty that gives such texts and the number of a string, if it is.
-fn fault_in(texts: &Texts, number: Option<u64>) -> Option<&'static str>
-    ensures { text_behind result ≡ fault_in texts.now number }
+/// Whether `--wide` is given.
+fn says_wide(profile: Profile) -> bool
+    ensures { result ≡ says_wide profile }
+{
+    matches!(profile, Profile::Wide)
+}
+
+/// Why a line is faulty that asks for a language and gives such texts and the number of a string, if it is.
+fn fault_in(profile: Profile, texts: &Texts, number: Option<u64>) -> Option<&'static str>
+    ensures { text_behind result ≡ fault_in profile texts.now number }
 {
     let has_sources = texts.word.is_some() || !texts.files.is_empty();
     let has_bytes = texts.bytes.is_some();
     if texts.session.is_some() {
-        let has_more = has_sources || has_bytes || texts.input.is_some();
+        let has_string = has_sources || has_bytes;
+        let has_more = has_string || texts.input.is_some() || says_wide(profile);
         return if has_more { Some(BESIDE) } else { None };
     }
     if has_sources && has_bytes {
@@ -195,24 +214,27 @@ fn number_in(matches: &ArgMatches) -> Option<u64>
     matches.get_one::<u64>("string")
 }
 
-/// The line with these texts, this number of a string and this limit.
+/// The line with this language, these texts, this number of a string and this limit.
 fn line_with(
     alloc: Global,
+    profile: Profile,
     texts: Texts,
     number: Option<u64>,
     limit: u64,
 ) -> Result<DebuggerLine, LineFault>
     ensures limit { IfOk result (λ line. line.limit ≡ limit) }
-    ensures fits { OnOk result (fault_in texts number ≡ None) }
+    ensures profile { IfOk result (λ line. line.profile ≡ profile) }
+    ensures fits { OnOk result (fault_in profile texts number ≡ None) }
     ensures origin { IfOk result (λ line. line.origin ≡ origin_of texts.session texts.bytes texts.files texts.word number) }
     ensures input { IfOk result (λ line. line.input ≡ texts.input) }
-    ensures refused { IfErr result (IsMisgiven texts number) }
+    ensures refused { IfErr result (IsMisgiven profile texts number) }
 {
-    if let Some(why) = fault_in(&texts, number) {
+    if let Some(why) = fault_in(profile, &texts, number) {
         return Err(faulty_line(alloc, why));
     }
     Ok(DebuggerLine {
         limit,
+        profile,
         origin: origin_of(
             texts.session,
             texts.bytes,
@@ -229,8 +251,9 @@ fn line_in<'a>(alloc: Global, matches: &ArgMatches<'a>) -> Result<DebuggerLine, 
     ensures range { IfOk result (λ line. line.limit ≤ 1000000000000) }
     ensures refused { IfErr result (LacksLine (rows_of (found_of matches.now))) }
 {
+    let profile = profile_at(matches);
     match texts_in(alloc, matches) {
-        Ok(texts) => line_with(alloc, texts, number_in(matches), limit_at(matches)),
+        Ok(texts) => line_with(alloc, profile, texts, number_in(matches), limit_at(matches)),
         Err(NoMemory) => Err(LineFault::NoMemory),
     }
 }

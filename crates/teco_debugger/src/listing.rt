@@ -4,11 +4,11 @@ ghost use Rattle.std.specs.Prelude.{◌≡◌, ◌≤◌, ◌++◌, OnOk, drop, 
 ghost use Rattle.std.specs.String.{string_bytes};
 ghost use Rattle.teco_core.specs.Register.{content, register_of};
 ghost use Rattle.teco_core.specs.declared.limits.TheConstants.{FILE_LIMIT};
-ghost use Rattle.teco_debugger.specs.Listing.{flags_shown, held_shown, if_held_shown, is_blank_content, is_line_ended, last_search_shown, last_shown, line_if, lines_shown, lines_there_shown, register_shown, registers_shown, rest_shown, shown_in_lines, sizes_shown, state_shown, text_shown, whole_register, with_line_end};
+ghost use Rattle.teco_debugger.specs.Listing.{flags_shown, held_shown, if_held_shown, is_blank_content, is_line_ended, language_shown, last_search_shown, last_shown, line_if, lines_shown, lines_there_shown, register_shown, registers_shown, rest_shown, shown_in_lines, sizes_shown, state_shown, text_shown, whole_register, with_line_end};
 ghost use Rattle.teco_store.specs.State.{state_of};
 
 use std::fmt::Write;
-use teco_core::{CaseMode, NoMemory, Reg, Registers};
+use teco_core::{CaseMode, NoMemory, Profile, Reg, Registers};
 use teco_messages::{letter, spell, spell_byte};
 use teco_step::line_place;
 use teco_store::{Desk, Editor, part};
@@ -236,6 +236,17 @@ fn show_sizes(out: &mut String, editor: &Editor) -> Result<(), NoMemory>
     )
 }
 
+/// Shows the language, if it is the wider one.
+#[tactic(auto, unfolding(crate::specs::Listing::language_shown))]
+fn show_language(out: &mut String, editor: &Editor) -> Result<(), NoMemory>
+    ensures { OnOk result (string_bytes out.new ≡ string_bytes out.old ++ language_shown (state_of editor.now).profile) }
+{
+    match editor.profile() {
+        Profile::Named => Ok(()),
+        Profile::Wide => out.push_str("strings are read in the wider language\n"),
+    }
+}
+
 /// Shows how the page ended, how a search takes letters, and whether the session is done.
 fn show_flags(out: &mut String, editor: &Editor) -> Result<(), NoMemory>
     ensures { OnOk result (string_bytes out.new ≡ string_bytes out.old ++ flags_shown (state_of editor.now)) }
@@ -253,5 +264,6 @@ pub fn show_state(out: &mut String, editor: &Editor) -> Result<(), NoMemory>
 {
     show_sizes(out, editor)?;
     show_search(out, editor)?;
+    show_language(out, editor)?;
     show_flags(out, editor)
 }

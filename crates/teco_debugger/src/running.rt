@@ -147,7 +147,7 @@ fn begun_with<D: Disk>(
     line: &DebuggerLine,
     disk: &mut D,
 ) -> Result<Begun, Ending>
-    ensures walk { IfOk result (λ begun. IsOver (D.seen disk.old).files line.now.input given begun) }
+    ensures walk { IfOk result (λ begun. IsOver line.now.profile (D.seen disk.old).files line.now.input given begun) }
     ensures lacks { let seen = disk_seen D.Disk D.Input.Source in
         IfErr result (InputIsMissing (D.seen disk.old).files (seen disk.new) line.now.input) }
     ensures keeps { let seen = disk_seen D.Disk D.Input.Source in
@@ -155,7 +155,7 @@ fn begun_with<D: Disk>(
 {
     let input = input_of(alloc, line, disk)?;
     Ok(Begun {
-        walk: Walk::new(input, given.text)?,
+        walk: Walk::new(line.profile, input, given.text)?,
         sources: given.sources,
         torn: 0,
     })
@@ -163,7 +163,7 @@ fn begun_with<D: Disk>(
 
 /// A walk over the string of the line.
 fn begun_by<D: Disk>(alloc: Global, line: &DebuggerLine, disk: &mut D) -> Result<Begun, Ending>
-    ensures begins { IfOk result (BeginsFrom (D.seen disk.old).files line.now.origin line.now.input) }
+    ensures begins { IfOk result (BeginsFrom line.now.profile (D.seen disk.old).files line.now.origin line.now.input) }
     ensures lacks { let seen = disk_seen D.Disk D.Input.Source in
         IfErr result (CannotRead (D.seen disk.old).files (seen disk.new) line.now) }
     ensures keeps { let seen = disk_seen D.Disk D.Input.Source in

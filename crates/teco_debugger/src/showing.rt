@@ -7,7 +7,7 @@ ghost use Rattle.teco_messages.specs.Spelling.{spelled};
 use crate::{Seen, Walk};
 use std::alloc::Global;
 use std::fmt::Write;
-use teco_core::{Code, NoMemory};
+use teco_core::{Code, NoMemory, Profile};
 use teco_exec::Place;
 use teco_messages::{
     line_end, line_start, show_call, show_code, show_place, spell, text_under, token,
@@ -41,7 +41,12 @@ fn show_standing(
             out.push_str(", ")?;
             spell(
                 out,
-                token(innermost(walk, string, place), place.at, MOST_FAULTY),
+                token(
+                    walk.editor().profile(),
+                    innermost(walk, string, place),
+                    place.at,
+                    MOST_FAULTY,
+                ),
             )
         }
     }
@@ -124,13 +129,13 @@ fn show_whole_line(out: &mut String, text: &[u8], at: usize) -> Result<(), NoMem
 
 /// Shows carets below as much of the token at a place as is in the line.
 #[tactic(auto, unfolding(crate::specs::Showing::mark_shown))]
-pub fn show_mark(out: &mut String, text: &[u8], at: usize) -> Result<(), NoMemory>
+pub fn show_mark(out: &mut String, profile: Profile, text: &[u8], at: usize) -> Result<(), NoMemory>
     requires { at ≤ length text.now }
-    ensures { OnOk result (string_bytes out.new ≡ string_bytes out.old ++ mark_shown text.now at) }
+    ensures { OnOk result (string_bytes out.new ≡ string_bytes out.old ++ mark_shown profile text.now at) }
 {
     let alloc = *out.allocator();
     let start = line_start(text, at);
-    let inside = token(text, at, MOST_FAULTY)
+    let inside = token(profile, text, at, MOST_FAULTY)
         .len()
         .min(line_end(text, at) - at);
     push_many(out, b' ', width(alloc, &text[start..at])?)?;
@@ -138,14 +143,14 @@ pub fn show_mark(out: &mut String, text: &[u8], at: usize) -> Result<(), NoMemor
 }
 
 /// Shows the line of a place, if the text has it, and marks below it as much of the token there as is in the line.
-fn show_line(out: &mut String, text: &[u8], at: usize) -> Result<(), NoMemory>
-    ensures { OnOk result (string_bytes out.new ≡ string_bytes out.old ++ line_there text.now at) }
+fn show_line(out: &mut String, profile: Profile, text: &[u8], at: usize) -> Result<(), NoMemory>
+    ensures { OnOk result (string_bytes out.new ≡ string_bytes out.old ++ line_there profile text.now at) }
 {
     if at > text.len() {
         return Ok(());
     }
     show_whole_line(out, text, at)?;
-    show_mark(out, text, at)?;
+    show_mark(out, profile, text, at)?;
     out.push_str("\n")
 }
 
@@ -234,7 +239,8 @@ fn show_lines(out: &mut String, walk: &Walk, string: &[u8], place: &Place) -> Re
     ensures { OnOk result (string_bytes out.new
         ≡ string_bytes out.old ++ lines_there walk.now string.now (Some place.now)) }
 {
-    show_line(out, innermost(walk, string, place), place.at)?;
+    let profile = walk.editor().profile();
+    show_line(out, profile, innermost(walk, string, place), place.at)?;
     show_here(out, place.turns.as_slice())?;
     show_calls(out, walk, string, place)
 }

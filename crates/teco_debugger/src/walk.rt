@@ -6,18 +6,19 @@ ghost use Rattle.teco_exec.specs.Options.{stop_left};
 ghost use Rattle.teco_exec.specs.Places.{FindsWanted, wanted_in};
 ghost use Rattle.teco_exec.specs.Runs.{RunsWithin};
 ghost use Rattle.teco_exec.specs.Telling.{IsLastPlace};
+ghost use Rattle.teco_replay.specs.Begun.{begun_state};
 ghost use Rattle.teco_session.specs.History.{present};
 ghost use Rattle.teco_session.specs.Kept.{history_of};
-ghost use Rattle.teco_store.specs.State.{beginning, paged_beginning, state_of};
+ghost use Rattle.teco_store.specs.State.{state_of};
 ghost use Rattle.teco_debugger.specs.Finding.{IsAsNowFrom, last_change};
 ghost use Rattle.teco_debugger.specs.Walk.{SameString, base, lacks_memory, led, meant, state_there};
 
-use crate::Part;
 use crate::finding::last_change;
+use crate::{Opening, Part};
 use std::alloc::Global;
 use std::cell::Cell;
 use std::marker::Model;
-use teco_core::{Code, NoMemory};
+use teco_core::{Code, NoMemory, Profile};
 use teco_exec::{
     Never, Options, Outcome, Place, Seeking, Stop, UntilFound, Wants, Watched, meaning_laws,
 };
@@ -34,9 +35,8 @@ use teco_undo::record_laws;
 /// The state there is the one that the string means under a limit of just these steps.
 #[derive(Drop)]
 pub struct Walk {
-    input: Vec<u8>,
-    /// How many lines a page has; with 0 the pages are those of the input.
-    lines: usize,
+    /// What the session began with.
+    opening: Opening,
     text: Vec<u8>,
     steps: u64,
     /// The string is its last one.
@@ -88,15 +88,10 @@ fn is_cut(outcome: Outcome, limit: u64) -> bool
 }
 
 impl Walk {
-    /// A walk at the beginning of a string, after all that was done to a session over this input, with pages of so many lines.
-    pub fn over(
-        input: Vec<u8>,
-        lines: usize,
-        text: Vec<u8>,
-        mut session: Session,
-    ) -> Result<Walk, NoMemory>
-        requires small { vec_len input ≤ FILE_LIMIT }
-        requires first { (history_of session).first ≡ paged_beginning lines input.items }
+    /// A walk at the beginning of a string, after all that was done to a session that began so.
+    pub fn over(opening: Opening, text: Vec<u8>, mut session: Session) -> Result<Walk, NoMemory>
+        requires small { vec_len opening.input ≤ FILE_LIMIT }
+        requires first { (history_of session).first ≡ begun_state opening.profile opening.lines opening.input.items }
         requires depth { (history_of session).depth ≡ None }
         ensures first { IfOk result (λ walk. walk.first ≡ (history_of session).first) }
         ensures before { IfOk result (λ walk. walk.before ≡ take (history_of session).cursor (history_of session).notes) }
@@ -107,8 +102,7 @@ impl Walk {
         let _leads = session.editor();
         match session.run(text.as_slice(), 0, &mut Quiet) {
             Answer::Ended(outcome) => Ok(Walk {
-                input,
-                lines,
+                opening,
                 text,
                 steps: outcome.steps,
                 session,
@@ -117,17 +111,21 @@ impl Walk {
         }
     }
 
-    /// A walk at the beginning of a string over an input of at most 2^30 bytes.
-    pub fn new(input: Vec<u8>, text: Vec<u8>) -> Result<Walk, NoMemory>
+    /// A walk at the beginning of a string of this language, over an input of at most 2^30 bytes.
+    pub fn new(profile: Profile, input: Vec<u8>, text: Vec<u8>) -> Result<Walk, NoMemory>
         requires { vec_len input ≤ FILE_LIMIT }
-        ensures first { IfOk result (λ walk. walk.first ≡ beginning input.items) }
+        ensures first { IfOk result (λ walk. walk.first ≡ begun_state profile 0 input.items) }
         ensures before { IfOk result (λ walk. walk.before ≡ []) }
         ensures text { IfOk result (λ walk. walk.text ≡ text.items) }
         ensures steps { IfOk result (λ walk. walk.steps ≡ 0) }
     {
-        let alloc = *input.allocator();
-        let session = Session::new(Vec::from_slice(alloc, input.as_slice())?);
-        Walk::over(input, 0, text, session)
+        let opening = Opening {
+            profile,
+            lines: 0,
+            input,
+        };
+        let session = opening.copy()?.session()?;
+        Walk::over(opening, text, session)
     }
 
     /// Runs one more of the strings before on another session, under a limit of the steps that it took.
@@ -150,28 +148,26 @@ impl Walk {
     fn session_before(&self) -> Result<Session, NoMemory>
         ensures { IfOk result (λ session. history_of session ≡ led self.now.first self.now.before) }
     {
-        let input = Vec::from_slice(self.alloc(), self.input.as_slice())?;
-        let mut session = Session::with_pages(input, self.lines, None)?;
+        let opening = self.opening.copy()?;
+        let mut session = opening.session()?;
         for i in 0..self.session.cursor().saturating_sub(1) {
             self.run_before(&mut session, i)?;
         }
         Ok(session)
     }
 
-    /// Another walk over the same string and input, at the beginning.
+    /// Another walk over the same string, at the beginning.
     pub fn anew(&self) -> Result<Walk, NoMemory>
         ensures string { IfOk result (SameString self.now) }
         ensures steps { IfOk result (λ walk. walk.steps ≡ 0) }
     {
-        let alloc = self.alloc();
-        let input = Vec::from_slice(alloc, self.input.as_slice())?;
-        let text = Vec::from_slice(alloc, self.text.as_slice())?;
-        Walk::over(input, self.lines, text, self.session_before()?)
+        let text = Vec::from_slice(self.alloc(), self.text.as_slice())?;
+        Walk::over(self.opening.copy()?, text, self.session_before()?)
     }
 
     /// The allocator of the walk.
     pub fn alloc(&self) -> Global {
-        *self.input.allocator()
+        *self.opening.input.allocator()
     }
 
     /// The command string.
@@ -258,7 +254,7 @@ impl Walk {
         ensures never_too_far { self.new.steps ≤ n }
     {
         meaning_laws();
-        let mut terminal = MemoryTerminal::new(*self.input.allocator());
+        let mut terminal = MemoryTerminal::new(self.alloc());
         let _ = self.session.undo();
         match self.session.run(self.text.as_slice(), n, &mut terminal) {
             Answer::Ended(outcome) => {

@@ -5,17 +5,18 @@ use Rattle.teco_cli.specs.declared.line.Commands.{Commands}
 use Rattle.teco_cli.specs.declared.line.Commands.TheVariants.{StandardInput, Sources, Pages, Bytes}
 use Rattle.teco_source.specs.Source.{commands_of}
 use Rattle.teco_driver.specs.Checks.{SaysAlone, SaysOfSource}
+use Rattle.teco_core.specs.declared.profile.Profile.{Profile}
 
 -- other commands have none
-pub none_alone : (wrong : List Bool → List ℕ → Bool) (commands : Commands) (says : Bool) → ((word : String Global) → commands ≡ Pages word → ⊥)
-    → says ≡ false → SaysAlone wrong commands says
-none_alone wrong StandardInput says never is = is
-none_alone wrong (Sources names word) says never is = is
-none_alone wrong (Pages word) says never is = absurd (never word refl)
-none_alone wrong (Bytes name) says never is = is
+pub none_alone : (p : Profile) (wrong : List Bool → List ℕ → Bool) (commands : Commands) (says : Bool) → ((word : String Global) → commands ≡ Pages word → ⊥)
+    → says ≡ false → SaysAlone p wrong commands says
+none_alone p wrong StandardInput says never is = is
+none_alone p wrong (Sources names word) says never is = is
+none_alone p wrong (Pages word) says never is = absurd (never word refl)
+none_alone p wrong (Bytes name) says never is = is
 
 -- and nor has a source that can't be read
-pub caret_alone : (wrong : List Bool → List ℕ → Bool) (commands : Commands) (word : String Global) (at : ℕ) (says : Bool) → commands ≡ Pages word
-    → commands_of (string_bytes word) ≡ Err at → says ≡ false → SaysAlone wrong commands says
-caret_alone wrong commands word at says is caret none = subst (λ (c : Commands). SaysAlone wrong c says) (sym is)
-    (subst (λ (read : Result (List ℕ) ℕ). SaysOfSource wrong read says) (sym caret) none)
+pub caret_alone : (p : Profile) (wrong : List Bool → List ℕ → Bool) (commands : Commands) (word : String Global) (at : ℕ) (says : Bool) → commands ≡ Pages word
+    → commands_of (string_bytes word) ≡ Err at → says ≡ false → SaysAlone p wrong commands says
+caret_alone p wrong commands word at says is caret none = subst (λ (c : Commands). SaysAlone p wrong c says) (sym is)
+    (subst (λ (read : Result (List ℕ) ℕ). SaysOfSource p wrong read says) (sym caret) none)

@@ -7,6 +7,7 @@ use Rattle.teco_check.specs.Clean.{IsClean}
 use Rattle.teco_check.specs.CleanRuns.{HoldsCode}
 use Rattle.teco_cli.specs.declared.assignment.Assignment.{Assignment}
 use Rattle.teco_core.specs.Register.{Content, content}
+use Rattle.teco_core.specs.declared.profile.Profile.{Profile}
 use Rattle.teco_store.specs.State.{State}
 use Rattle.teco_driver.specs.Values.{assigned, holds_wrong, put_into, with_values}
 
@@ -40,8 +41,8 @@ one_wrong q p wrong code registers so_far one here before is =
     ∙ sym (wrong_after q wrong code registers) ∙ ap (λ n. holds_wrong n wrong code registers) (sym (add-one q))
 
 -- the same of those that hold clean texts
-abbrev pub IsCleanAt : List Bool → List Content → ℕ → Type 0
-IsCleanAt code registers q = held code q ≡ true → IsClean (held code) (content registers q).text
+abbrev pub IsCleanAt : Profile → List Bool → List Content → ℕ → Type 0
+IsCleanAt profile code registers q = held code q ≡ true → IsClean profile (held code) (content registers q).text
 
 at_or_below : (p q : ℕ) → p < q + 1 → (p < q) ⊎ (p ≡ q)
 at_or_below p q h = elim (cases_lt p q) [
@@ -49,16 +50,16 @@ at_or_below p q h = elim (cases_lt p q) [
   | inr past ↦ inr (omega (arith, past, h))
 ]
 
-pub one_right : (q r : ℕ) (code : List Bool) (registers : List Content) → r ≡ q → ((p : ℕ) → p < q → IsCleanAt code registers p) → IsCleanAt code registers r
-    → (p : ℕ) → p < q + 1 → IsCleanAt code registers p
-one_right q r code registers here before one p less = elim (at_or_below p q less) [
+pub one_right : (profile : Profile) (q r : ℕ) (code : List Bool) (registers : List Content) → r ≡ q → ((p : ℕ) → p < q → IsCleanAt profile code registers p) → IsCleanAt profile code registers r
+    → (p : ℕ) → p < q + 1 → IsCleanAt profile code registers p
+one_right profile q r code registers here before one p less = elim (at_or_below p q less) [
   | inl below ↦ before p below
-  | inr is ↦ subst (IsCleanAt code registers) (here ∙ sym is) one
+  | inr is ↦ subst (IsCleanAt profile code registers) (here ∙ sym is) one
 ]
 
-pub holds_code : (n : ℕ) (code : List Bool) (registers : List Content) → length code ≡ 36 → 36 ≤ n → ((q : ℕ) → q < n → IsCleanAt code registers q)
-    → HoldsCode (held code) registers
-holds_code n code registers all most clean q marked = elim (cases_lt q 36) [
+pub holds_code : (profile : Profile) (n : ℕ) (code : List Bool) (registers : List Content) → length code ≡ 36 → 36 ≤ n → ((q : ℕ) → q < n → IsCleanAt profile code registers q)
+    → HoldsCode profile (held code) registers
+holds_code profile n code registers all most clean q marked = elim (cases_lt q 36) [
   | inl less ↦ clean q (omega (arith, less, most)) marked
   | inr past ↦ absurd (true≢false (sym marked ∙ get_or_past code q false (omega (arith, all, past))))
 ]

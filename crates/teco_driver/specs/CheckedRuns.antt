@@ -2,6 +2,7 @@
 use Rattle.std.specs.Prelude.{◌≡◌, ℕ, List, Bool, false, Option, Some}
 use Rattle.std.specs.List.{AllByRecursion}
 use Rattle.teco_core.specs.declared.code.Code.{Code}
+use Rattle.teco_core.specs.declared.profile.Profile.{Profile}
 use Rattle.teco_check.specs.Checked.{held}
 use Rattle.teco_check.specs.CleanRuns.{IsCleanState, is_static}
 use Rattle.teco_lint.specs.Right.{AreRight}
@@ -24,7 +25,7 @@ TellNoFault exchanges = AllByRecursion (λ x. AllByRecursion TellsNoFault x.repl
 -- state, with any depth. Some texts may not be served, and some may be undone, redone or rewound,
 -- broken off, or end for want of memory.
 abbrev pub NeverAnswersFault : Allowance → Type 0
-NeverAnswersFault allowed = (code : List Bool) (commands : List ℕ) → AreRight code commands
-    → (first : State) → IsCleanState (held code) first
+NeverAnswersFault allowed = (p : Profile) (code : List Bool) (commands : List ℕ) → AreRight p code commands
+    → (first : State) → IsCleanState p (held code) first
     → (depth : Option ℕ) (exchanges : List Exchange) (new : History) → AreFirstOf exchanges commands
     → Exchanges allowed (history_from depth first) exchanges new → TellNoFault exchanges

@@ -15,45 +15,46 @@ use Rattle.teco_serve.specs.Ending.{said}
 use Rattle.teco_source.specs.Source.{commands_of}
 use Rattle.teco_fs.specs.Refusing.{Tells}
 use Rattle.teco_io.specs.Terminal.{Screen, Shows}
+use Rattle.teco_core.specs.declared.profile.Profile.{Profile}
 
 -- It says whether a text of commands is wrong in this way, where the registers hold code that the commands call.
-abbrev pub SaysOf : (List Bool → List ℕ → Bool) → List ℕ → Bool → Type 0
-SaysOf wrong text says = (code : List Bool) × AreCalled code text × (says ≡ wrong code text)
+abbrev pub SaysOf : Profile → (List Bool → List ℕ → Bool) → List ℕ → Bool → Type 0
+SaysOf p wrong text says = (code : List Bool) × AreCalled p code text × (says ≡ wrong code text)
 
 -- the same of what a source stands for; of one that can't be read it says nothing
-abbrev pub SaysOfSource : (List Bool → List ℕ → Bool) → Result (List ℕ) ℕ → Bool → Type 0
-SaysOfSource wrong (Ok strings) says = SaysOf wrong strings says
-SaysOfSource wrong (Err at) says = says ≡ false
+abbrev pub SaysOfSource : Profile → (List Bool → List ℕ → Bool) → Result (List ℕ) ℕ → Bool → Type 0
+SaysOfSource p wrong (Ok strings) says = SaysOf p wrong strings says
+SaysOfSource p wrong (Err at) says = says ≡ false
 
 -- Strings for every page are a text by themselves: nothing of the loop around them ends what they leave open.
-abbrev pub SaysAlone : (List Bool → List ℕ → Bool) → Commands → Bool → Type 0
-SaysAlone wrong StandardInput says = says ≡ false
-SaysAlone wrong (Sources names word) says = says ≡ false
-SaysAlone wrong (Pages word) says = SaysOfSource wrong (commands_of (string_bytes word)) says
-SaysAlone wrong (Bytes name) says = says ≡ false
+abbrev pub SaysAlone : Profile → (List Bool → List ℕ → Bool) → Commands → Bool → Type 0
+SaysAlone p wrong StandardInput says = says ≡ false
+SaysAlone p wrong (Sources names word) says = says ≡ false
+SaysAlone p wrong (Pages word) says = SaysOfSource p wrong (commands_of (string_bytes word)) says
+SaysAlone p wrong (Bytes name) says = says ≡ false
 
 -- It says whether a text of commands is wrong in this way, or one that a register of code has from the line is in that way.
 abbrev pub SaysOfAll : (wrong wrong_text : List Bool → List ℕ → Bool) → Line → List ℕ → Bool → Type 0
-SaysOfAll wrong wrong_text line bytes says = (code : List Bool) × AreCalledOver (registers_of line) code bytes
+SaysOfAll wrong wrong_text line bytes says = (code : List Bool) × AreCalledOver line.profile (registers_of line) code bytes
     × (says ≡ (wrong code bytes || hold_wrong (wrong_text code) code (registers_of line)))
 
 -- It says whether these commands of a line are wrong so: all together with the line's texts, or strings for every page by themselves.
 abbrev pub SaysOfLine : (wrong wrong_text : List Bool → List ℕ → Bool) → Line → List ℕ → Bool → Type 0
-SaysOfLine wrong wrong_text line bytes says = (alone all : Bool) × SaysAlone wrong line.commands alone
+SaysOfLine wrong wrong_text line bytes says = (alone all : Bool) × SaysAlone line.profile wrong line.commands alone
     × SaysOfAll wrong wrong_text line bytes all × (says ≡ (alone || all))
 
 -- whether they have a fault; and whether they have one by which a run ends
 abbrev pub SaysFaulty : Line → List ℕ → Bool → Type 0
-SaysFaulty line bytes says = SaysOfLine is_faulty has_fault line bytes says
+SaysFaulty line bytes says = SaysOfLine (is_faulty line.profile) (has_fault line.profile) line bytes says
 
 abbrev pub SaysMisspelt : Line → List ℕ → Bool → Type 0
-SaysMisspelt line bytes says = SaysOfLine is_misspelt is_misspelt_text line bytes says
+SaysMisspelt line bytes says = SaysOfLine (is_misspelt line.profile) (is_misspelt_text line.profile) line bytes says
 
 -- Each text that a run of the commands reads runs as one without a fault, where the registers hold code that the commands call. At first
 -- these hold clean texts. By `checked_laws` none then ends by a code of a fault.
 abbrev pub RunWithoutFault : Line → List ℕ → Type 0
-RunWithoutFault line commands = (code : List Bool) × AreCalledOver (registers_of line) code commands × AreRight code commands
-    × HoldsCode (held code) (registers_of line)
+RunWithoutFault line commands = (code : List Bool) × AreCalledOver line.profile (registers_of line) code commands
+    × AreRight line.profile code commands × HoldsCode line.profile (held code) (registers_of line)
 
 -- 2 if there is a fault, else 0
 abbrev pub status_of_check : Bool → ℕ

@@ -90,9 +90,9 @@ abbrev pub depth_of : Line → List ℕ → Option ℕ
 depth_of line commands =
     elim line.undo [ Some depth ↦ Some depth | None ↦ (if wants_history line commands then None else Some 0) ]
 
--- the state that a run over this input begins in: its registers hold what the line puts there
+-- the state that a run over this input begins in: it has the line's profile, and its registers hold what the line puts there
 abbrev pub first_state : Line → List ℕ → State
-first_state line input = record (paged_beginning (page_lines_of line input) input) { registers = registers_of line }
+first_state line input = record (paged_beginning (page_lines_of line input) input) { profile = line.profile; registers = registers_of line }
 
 -- the history that it begins with
 abbrev pub history_over : Line → Option ℕ → List ℕ → History

@@ -69,6 +69,6 @@ fault_line line input NoMemory = said (codes "no memory")
 fault_line line input Version = said (session_name line ++ codes " is no session of this version")
 fault_line line input Head = said (codes "the head of " ++ session_name line ++ codes " is not as it was written")
 fault_line line input (Changed number) = changed_line (session_name line) number
-fault_line line input Settings = said (session_name line ++ codes " was begun with another --undo or --page-lines")
+fault_line line input Settings = said (session_name line ++ codes " was begun with another --undo or --page-lines, or without --wide")
 fault_line line input (Replay fault) = replay_line (session_name line) fault
 fault_line line input Input = input_line (session_name line) input

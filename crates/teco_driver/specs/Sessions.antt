@@ -1,6 +1,8 @@
 -- A run over an input of the line whose session is kept in a file.
 use Rattle.teco_driver.specs.declared.word_source.WordSource.{WordSource}
-use Rattle.std.specs.Prelude.{◌≡◌, ◌⊎◌, ℕ, List, length, Bool, true, false, Some}
+use Rattle.std.specs.Prelude.{◌≡◌, ◌⊎◌, ℕ, List, length, Bool, true, false, Option, Some, None}
+use Rattle.teco_core.specs.declared.profile.Profile.{Profile}
+use Rattle.teco_core.specs.declared.profile.Profile.TheVariants.{Named, Wide}
 use Rattle.teco_cli.specs.StreamNames.{is_standard_input, is_standard_output}
 use Rattle.teco_cli.specs.declared.line.Line.{Line}
 use Rattle.teco_driver.specs.Given.{HostView, IsIdle, word_seen}
@@ -48,11 +50,16 @@ as_state seen = record {
 
 -- what the line begins a session with over this input
 abbrev pub origin_by : Line → List ℕ → Beginning
-origin_by line input = record { lines = page_lines_of line input; depth = line.undo; input = input }
+origin_by line input = record { profile = line.profile; lines = page_lines_of line input; depth = line.undo; input = input }
+
+-- the profile that a line asks for: with no --wide it asks for none
+abbrev pub asked_profile : Profile → Option Profile
+asked_profile Named = None
+asked_profile Wide = Some Wide
 
 -- what the line asks of a session that goes on
 abbrev pub asked_by : Line → Asked
-asked_by line = record { lines = line.page_lines; depth = line.undo }
+asked_by line = record { profile = asked_profile line.profile; lines = line.page_lines; depth = line.undo }
 
 -- where the input comes from: what there is of it on standard input, or on the disk
 abbrev pub input_seen : {D I S A T : Type 0} → HostView D I S T → List ℕ → Host S A T D → S → D → InputSeen

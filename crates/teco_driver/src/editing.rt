@@ -179,7 +179,7 @@ pub struct Work {
     pub to: String,
 }
 
-/// Makes a session over an input, with pages and values by the line and so many strings kept, and the name of its output.
+/// Makes a session over an input, with a profile, pages and values by the line and so many strings kept, and the name of its output.
 fn work_over(
     alloc: Global,
     line: &Line,
@@ -194,7 +194,7 @@ fn work_over(
 {
     let to = output_name(alloc, line, name)?;
     let lines = page_lines_of(line, input.as_slice());
-    let mut editor = Editor::with_page_lines(input, lines);
+    let mut editor = Editor::with_page_lines(input, lines).with_profile(line.profile);
     put_values(alloc, &line.values, &mut editor)?;
     let session = Session::over(editor, depth)?;
     Ok(Work { session, to })

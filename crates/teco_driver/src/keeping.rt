@@ -8,7 +8,7 @@ ghost use Rattle.teco_cli.specs.StreamNames.{is_standard_input};
 ghost use Rattle.teco_driver.specs.Given.{host_view};
 ghost use Rattle.teco_driver.specs.Run.{bounds_of, manner_of};
 ghost use Rattle.teco_driver.specs.SessionLines.{TellsOrLacks, opening_lines};
-ghost use Rattle.teco_driver.specs.Sessions.{ConcludesKept, FinishesKept, EditsKept, EditsKeptByStream, LinkKeptGiven, OpensOver, StaysUnserved, asked_by, origin_by};
+ghost use Rattle.teco_driver.specs.Sessions.{ConcludesKept, FinishesKept, EditsKept, EditsKeptByStream, LinkKeptGiven, OpensOver, StaysUnserved, asked_by, asked_profile, origin_by};
 ghost use Rattle.teco_driver.specs.Seen.{commands_seen};
 ghost use Rattle.teco_driver.specs.declared.giving.Feed.TheVariants.{Stream};
 ghost use Rattle.teco_fs.specs.Seen.{KeepsStream, disk_seen};
@@ -33,6 +33,7 @@ use crate::session_lines::{fault_line, not_kept_line, opening_lines, tell};
 use crate::word_source::WordSource;
 use std::alloc::Global;
 use teco_cli::Line;
+use teco_core::Profile;
 use teco_fs::{Disk, Reason};
 use teco_io::{Source, Terminal};
 use teco_journal::Start;
@@ -59,9 +60,20 @@ fn start_of<'a>(line: &Line, input: &'a [u8]) -> Start<'a>
     ensures depth { ForSome result.depth (λ depth. depth ≤ DEPTH_LIMIT) }
 {
     Start {
+        profile: line.profile,
         lines: page_lines_of(line, input),
         depth: depth_said(line),
         input,
+    }
+}
+
+/// The profile that a line asks for: with no `--wide` it asks for none.
+fn asked_profile(profile: Profile) -> Option<Profile>
+    ensures { result ≡ asked_profile profile }
+{
+    match profile {
+        Profile::Named => None,
+        Profile::Wide => Some(profile),
     }
 }
 
@@ -71,6 +83,7 @@ fn asked_of(line: &Line) -> Asked
     ensures { result ≡ asked_by line.now }
 {
     Asked {
+        profile: asked_profile(line.profile),
         lines: match line.page_lines {
             Some(lines) => Some(lines as usize),
             None => None,

@@ -154,7 +154,7 @@ pub fn fault_line(
             alloc,
             "",
             file,
-            " was begun with another --undo or --page-lines",
+            " was begun with another --undo or --page-lines, or without --wide",
         ),
         OpenFault::Replay(ReplayFault::Memory) => said_of(alloc, "no memory", "", ""),
         OpenFault::Replay(ReplayFault::Terminal | ReplayFault::Wrong) => said_of(

@@ -14,13 +14,13 @@ use crate::{ReadSources, put_values, source_name};
 use std::alloc::Global;
 use teco_check::REGISTERS;
 use teco_cli::{Commands, Line};
-use teco_core::{NoMemory, Reg, Registers};
+use teco_core::{NoMemory, Profile, Reg, Registers};
 use teco_lint::{
     Advice, Remark, What, check, check_over, check_text, is_misspelt, is_misspelt_text,
     register_at, report, report_part,
 };
 use teco_messages::letter;
-use teco_scan::Span;
+use teco_scan::{Span, Text};
 use teco_source::{ReaderFault, beginnings, commands as commands_of};
 use teco_store::{Desk, Editor};
 
@@ -37,7 +37,7 @@ fn lines_of_parts(
     alloc: Global,
     commands: &Commands,
     parts: &ReadSources,
-    bytes: &[u8],
+    bytes: Text<'_>,
     remarks: &[Remark],
 ) -> Result<String, NoMemory> {
     let mut lines = String::new(alloc);
@@ -70,11 +70,11 @@ fn lines_of(
     alloc: Global,
     commands: &Commands,
     parts: &ReadSources,
-    bytes: &[u8],
+    bytes: Text<'_>,
     remarks: &[Remark],
 ) -> Result<String, NoMemory> {
     match commands {
-        Commands::Bytes(name) => report(alloc, name.as_str(), bytes, None, bytes, remarks),
+        Commands::Bytes(name) => report(alloc, name.as_str(), bytes.bytes, None, bytes, remarks),
         _ => lines_of_parts(alloc, commands, parts, bytes, remarks),
     }
 }
@@ -95,7 +95,7 @@ fn lines_by(
     alloc: Global,
     commands: &Commands,
     parts: &ReadSources,
-    bytes: &[u8],
+    bytes: Text<'_>,
     advice: &Advice,
     hints: bool,
 ) -> Result<String, NoMemory> {
@@ -108,48 +108,60 @@ fn lines_by(
 /// Checks the text that a register has at first, if it holds code.
 fn verdict_on_register(
     alloc: Global,
+    profile: Profile,
     first: &Registers,
     register: Reg,
     code: &[bool; REGISTERS],
 ) -> Result<Verdict, NoMemory>
     ensures faulty { IfOk result (λ verdict. verdict.is_faulty
-        ≡ (held code.now register && has_fault code.now (content first.now register).text)) }
+        ≡ (held code.now register && has_fault profile code.now (content first.now register).text)) }
     ensures misspelt { IfOk result (λ verdict. verdict.is_misspelt
-        ≡ (held code.now register && is_misspelt_text code.now (content first.now register).text)) }
+        ≡ (held code.now register && is_misspelt_text profile code.now (content first.now register).text)) }
     ensures right { IfOk result (λ verdict. verdict.is_faulty ≡ false
-        → held code.now register ≡ true → IsClean (held code.now) (content first.now register).text) }
+        → held code.now register ≡ true → IsClean profile (held code.now) (content first.now register).text) }
 {
     if !code[register.index()] {
         return Ok(unchecked(alloc));
     }
     let text = first.text(register);
     let mut faults = Vec::new(alloc);
-    let is_faulty = check_text(alloc, &mut faults, text, code)?;
+    let is_faulty = check_text(alloc, profile, &mut faults, text, code)?;
     let letter = letter(register);
     let name = format!(in alloc; "--assign {letter}")?;
     Ok(Verdict {
-        lines: report(alloc, name.as_str(), text, None, text, &faults)?,
+        lines: report(
+            alloc,
+            name.as_str(),
+            text,
+            None,
+            Text {
+                profile,
+                bytes: text,
+            },
+            &faults,
+        )?,
         is_faulty,
-        is_misspelt: is_misspelt_text(alloc, text, code),
+        is_misspelt: is_misspelt_text(alloc, profile, text, code),
     })
 }
 
 /// Checks the texts that registers of code have at first.
 fn verdict_on_registers(
     alloc: Global,
+    profile: Profile,
     first: &Registers,
     code: &[bool; REGISTERS],
 ) -> Result<Verdict, NoMemory>
-    ensures faulty { IfOk result (λ verdict. verdict.is_faulty ≡ hold_wrong (has_fault code.now) code.now first.now) }
+    ensures faulty { IfOk result (λ verdict. verdict.is_faulty ≡ hold_wrong (has_fault profile code.now) code.now first.now) }
     ensures misspelt { IfOk result (λ verdict. verdict.is_misspelt
-        ≡ hold_wrong (is_misspelt_text code.now) code.now first.now) }
-    ensures right { IfOk result (λ verdict. verdict.is_faulty ≡ false → HoldsCode (held code.now) first.now) }
+        ≡ hold_wrong (is_misspelt_text profile code.now) code.now first.now) }
+    ensures right { IfOk result (λ verdict. verdict.is_faulty ≡ false → HoldsCode profile (held code.now) first.now) }
 {
     let mut lines = String::new(alloc);
     let mut is_faulty = false;
     let mut is_misspelt = false;
     'registers: for index in 0..REGISTERS {
-        let one = verdict_on_register(alloc, first, register_at(index), code)?;
+        let one = verdict_on_register(alloc, profile, first, register_at(index), code)?;
         lines.push_str(one.lines.as_str())?;
         is_faulty |= one.is_faulty;
         is_misspelt |= one.is_misspelt;
@@ -169,35 +181,41 @@ fn verdict_on_all(
     bytes: &[u8],
     hints: bool,
 ) -> Result<Verdict, NoMemory>
-    ensures faulty { IfOk result (λ verdict. SaysOfAll is_faulty has_fault line.now bytes.now verdict.is_faulty) }
-    ensures misspelt { IfOk result (λ verdict. SaysOfAll is_misspelt is_misspelt_text line.now bytes.now verdict.is_misspelt) }
+    ensures faulty { IfOk result (λ verdict. SaysOfAll (is_faulty line.now.profile) (has_fault line.now.profile) line.now bytes.now verdict.is_faulty) }
+    ensures misspelt { IfOk result (λ verdict. SaysOfAll (is_misspelt line.now.profile) (is_misspelt_text line.now.profile)
+        line.now bytes.now verdict.is_misspelt) }
     ensures right { IfOk result (λ verdict. verdict.is_faulty ≡ false → RunWithoutFault line.now bytes.now) }
 {
     let mut editor = Editor::new(Vec::new(alloc));
     put_values(alloc, &line.values, &mut editor)?;
     let first = editor.registers();
-    let advice = check_over(alloc, bytes, first)?;
-    let texts = verdict_on_registers(alloc, first, &advice.code)?;
-    let mut lines = lines_by(alloc, &line.commands, parts, bytes, &advice, hints)?;
+    let advice = check_over(alloc, line.profile, bytes, first)?;
+    let texts = verdict_on_registers(alloc, line.profile, first, &advice.code)?;
+    let text = Text {
+        profile: line.profile,
+        bytes,
+    };
+    let mut lines = lines_by(alloc, &line.commands, parts, text, &advice, hints)?;
     lines.push_str(texts.lines.as_str())?;
     Ok(Verdict {
         lines,
         is_faulty: advice.is_faulty | texts.is_faulty,
-        is_misspelt: is_misspelt(alloc, bytes, &advice.code) | texts.is_misspelt,
+        is_misspelt: is_misspelt(alloc, line.profile, bytes, &advice.code) | texts.is_misspelt,
     })
 }
 
 /// Checks strings for every page by themselves, and tells their faults alone.
 fn verdict_on_strings(
     alloc: Global,
+    profile: Profile,
     name: &str,
     source: &[u8],
     strings: &[u8],
 ) -> Result<Verdict, NoMemory>
-    ensures faulty { IfOk result (λ verdict. SaysOf is_faulty strings.now verdict.is_faulty) }
-    ensures misspelt { IfOk result (λ verdict. SaysOf is_misspelt strings.now verdict.is_misspelt) }
+    ensures faulty { IfOk result (λ verdict. SaysOf profile (is_faulty profile) strings.now verdict.is_faulty) }
+    ensures misspelt { IfOk result (λ verdict. SaysOf profile (is_misspelt profile) strings.now verdict.is_misspelt) }
 {
-    let advice = check(alloc, strings)?;
+    let advice = check(alloc, profile, strings)?;
     let faults = faults_of(alloc, &advice)?;
     let places = beginnings(alloc, source)?;
     Ok(Verdict {
@@ -206,11 +224,14 @@ fn verdict_on_strings(
             name,
             source,
             Some(places.as_slice()),
-            strings,
+            Text {
+                profile,
+                bytes: strings,
+            },
             &faults,
         )?,
         is_faulty: advice.is_faulty,
-        is_misspelt: is_misspelt(alloc, strings, &advice.code),
+        is_misspelt: is_misspelt(alloc, profile, strings, &advice.code),
     })
 }
 
@@ -227,9 +248,9 @@ fn unchecked(alloc: Global) -> Verdict
 }
 
 /// Checks strings for every page by themselves, where the commands are those.
-fn verdict_alone(alloc: Global, commands: &Commands) -> Result<Verdict, NoMemory>
-    ensures faulty { IfOk result (λ verdict. SaysAlone is_faulty commands.now verdict.is_faulty) }
-    ensures misspelt { IfOk result (λ verdict. SaysAlone is_misspelt commands.now verdict.is_misspelt) }
+fn verdict_alone(alloc: Global, profile: Profile, commands: &Commands) -> Result<Verdict, NoMemory>
+    ensures faulty { IfOk result (λ verdict. SaysAlone profile (is_faulty profile) commands.now verdict.is_faulty) }
+    ensures misspelt { IfOk result (λ verdict. SaysAlone profile (is_misspelt profile) commands.now verdict.is_misspelt) }
 {
     let Commands::Pages(word) = commands else {
         return Ok(unchecked(alloc));
@@ -238,6 +259,7 @@ fn verdict_alone(alloc: Global, commands: &Commands) -> Result<Verdict, NoMemory
     match commands_of(alloc, source) {
         Ok(strings) => verdict_on_strings(
             alloc,
+            profile,
             source_name(commands, 0),
             source,
             strings.as_slice(),
@@ -260,7 +282,7 @@ pub(crate) fn verdict_on(
     ensures misspelt { IfOk result (λ verdict. SaysMisspelt line.now bytes.now verdict.is_misspelt) }
     ensures right { IfOk result (λ verdict. verdict.is_faulty ≡ false → RunWithoutFault line.now bytes.now) }
 {
-    let alone = verdict_alone(alloc, &line.commands)?;
+    let alone = verdict_alone(alloc, line.profile, &line.commands)?;
     let all = verdict_on_all(alloc, line, parts, bytes, hints)?;
     Ok(Verdict {
         is_faulty: alone.is_faulty | all.is_faulty,

@@ -2,12 +2,14 @@
 use Rattle.std.specs.Prelude.{◌≡◌, ◌⊎◌, ℕ, ◌<◌, List, length, true, Option, Some, None, if◌then◌else◌, ◌==◌}
 use Rattle.teco_core.specs.Code.{number_of}
 use Rattle.teco_core.specs.declared.code.Code.TheVariants.{Ntu, Ntr}
+use Rattle.teco_core.specs.declared.profile.Profile.{Profile}
 use Rattle.teco_exec.specs.Runs.{Answers, RunsWithin}
 use Rattle.teco_session.specs.Answers.{is_unbegun, string_outcome}
 use Rattle.teco_session.specs.declared.request.Answer.{Answer}
 use Rattle.teco_session.specs.History.{undone, redone, rewound, without_undone}
-use Rattle.teco_session.specs.Kept.{history_of, reverted, applied, cut_to, forgotten}
+use Rattle.teco_session.specs.Kept.{history_of, session_over, reverted, applied, cut_to, forgotten}
 use Rattle.teco_session.specs.Step.{RunStep}
+use Rattle.teco_store.specs.State.{Full, new_paged_full, with_body, with_profile}
 use Rattle.teco_ffi.specs.Handle.{Kept}
 use Rattle.teco_ffi.specs.declared.answers.TheConstants.{CLOSED}
 
@@ -19,6 +21,14 @@ StaysClosed (Some old) code new = Unit {0}
 -- the depth that is asked for: 0 asks for every string
 abbrev pub depth_asked : ℕ → Option ℕ
 depth_asked n = if n == 0 then None else Some n
+
+-- the editor at its beginning, whose strings are read in this profile, with this input and pages of so many lines
+abbrev pub begun_editor : Profile → ℕ → List ℕ → Full
+begun_editor p lines input = with_body (new_paged_full lines input) (with_profile p (new_paged_full lines input).body)
+
+-- and the session that is opened over it, which keeps so many strings
+abbrev pub begun_session : Profile → ℕ → Option ℕ → List ℕ → Kept
+begun_session p lines depth input = session_over depth (begun_editor p lines input)
 
 -- It goes back by a string, or there is none and it is the same.
 abbrev pub Undoes : Kept → ℕ → Kept → Type 0

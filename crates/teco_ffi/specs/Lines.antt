@@ -1,5 +1,6 @@
 -- What is told of the file of a session: its head, and a line for what each request did.
 use Rattle.std.specs.Prelude.{◌≡◌, ℕ, ◌==◌, ◌≤◌, ◌<◌, List, length, Option, Some, None, if◌then◌else◌}
+use Rattle.teco_core.specs.declared.profile.Profile.{Profile}
 use Rattle.teco_journal.specs.Events.{Event, ran, undid, redid, cut, forgot}
 use Rattle.teco_journal.specs.Heads.{Beginning}
 use Rattle.teco_ffi.specs.Calls.{depth_asked}
@@ -16,9 +17,9 @@ event_named kind steps text =
     else (if kind == REWOUND then Some (cut steps)
     else (if kind == FORGOT then Some forgot else None))))
 
--- what a session over this input begins with, as `teco_open` opens it: how many lines end a page, and its depth
-abbrev pub beginning_asked : ℕ → ℕ → List ℕ → Beginning
-beginning_asked lines depth input = record { lines = lines; depth = depth_asked depth; input = input }
+-- what a session over this input begins with, as it is opened: the profile, how many lines end a page, and its depth
+abbrev pub beginning_asked : Profile → ℕ → ℕ → List ℕ → Beginning
+beginning_asked p lines depth input = record { profile = p; lines = lines; depth = depth_asked depth; input = input }
 
 -- These bytes are told: how many they are; and if there is room for them they are copied, and the check is the one after them.
 pub record IsLineTold (bytes check : List ℕ) (old new : Line) : Type 0 where

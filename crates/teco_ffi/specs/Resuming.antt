@@ -7,14 +7,15 @@ use Rattle.teco_journal.specs.Lines.{check_after}
 use Rattle.teco_journal.specs.Reading.{EndsAs}
 use Rattle.teco_journal.specs.declared.reader.Ending.{Ending}
 use Rattle.teco_journal.specs.declared.reader.Ending.TheVariants.{Whole, Torn, Changed, Unknown}
+use Rattle.teco_replay.specs.Begun.{begun_history}
 use Rattle.teco_replay.specs.Told.{after_events}
-use Rattle.teco_session.specs.History.{History, new_paged_history}
+use Rattle.teco_session.specs.History.{History}
 use Rattle.teco_ffi.specs.declared.resuming.Resumed.{Resumed}
 use Rattle.teco_ffi.specs.declared.resuming.TheConstants.{WHOLE, TORN, CHANGED, UNKNOWN}
 
 -- the history that these events tell of a session that began so
 abbrev pub told_history : Beginning → List Event → History
-told_history beginning events = after_events (new_paged_history beginning.lines beginning.depth beginning.input) events
+told_history beginning events = after_events (begun_history beginning.profile beginning.lines beginning.depth beginning.input) events
 
 -- why a reading ended, by a number
 abbrev pub ending_number : Ending → ℕ

@@ -10,7 +10,7 @@ ghost use Rattle.teco_ffi.specs.Lines.{IsNoLineTold, IsLineTold, KeepsLine, even
 use crate::answers::OUTSIDE;
 use crate::room::copy_front;
 use std::alloc::Global;
-use teco_core::{Code, NoMemory};
+use teco_core::{Code, NoMemory, Profile};
 use teco_journal::{CHECK_LENGTH, Record, Start, new_head, push_record};
 
 /// A command string was run.
@@ -121,10 +121,17 @@ pub fn tell_record(alloc: Global, text: &[u8], line: &mut Line) -> u8
     0
 }
 
-/// Tells the head of the file of a session over this input, with pages of so many lines and of this depth, as `teco_head` of the library
-/// for C does. 0, or the number of MEM.
-pub fn tell_head(alloc: Global, input: &[u8], lines: usize, depth: usize, line: &mut Line) -> u8
-    ensures told { let begun = beginning_asked lines depth input.now in
+/// Tells the head of the file of a session over this input, whose strings are read in this profile, with pages of so many lines and of this
+/// depth, as `teco_head` of the library for C does in the profile Named. 0, or the number of MEM.
+pub fn tell_head(
+    alloc: Global,
+    profile: Profile,
+    input: &[u8],
+    lines: usize,
+    depth: usize,
+    line: &mut Line,
+) -> u8
+    ensures told { let begun = beginning_asked profile lines depth input.now in
         result ≡ 0 → IsLineTold (whole_head begun) (first_check begun) line.old line.new }
     ensures refused { result ≢ 0 → IsNoLineTold line.old line.new }
     ensures else_memory { (result ≡ 0) ⊎ (result ≡ number_of Mem) }
@@ -132,6 +139,7 @@ pub fn tell_head(alloc: Global, input: &[u8], lines: usize, depth: usize, line: 
 {
     line.made = 0;
     let start = Start {
+        profile,
         lines,
         depth: if depth == 0 { None } else { Some(depth) },
         input,

@@ -88,7 +88,14 @@ fn session_of(alloc: Global, file: &SessionFile<'_>) -> Result<Box<Session>, u8>
         return Err(Code::Mem.number());
     };
     let records = file.journal.records.as_slice();
-    match resume(input, start.lines, start.depth, records, &mut Quiet) {
+    match resume(
+        start.profile,
+        input,
+        start.lines,
+        start.depth,
+        records,
+        &mut Quiet,
+    ) {
         Err(fault) => Err(number_of_replay(fault)),
         Ok(session) => match Box::new(alloc, session) {
             Ok(session) => Ok(session),

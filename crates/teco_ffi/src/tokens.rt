@@ -1,5 +1,4 @@
 //! What stands at a place of a text.
-ghost use Rattle.teco_core.specs.declared.profile.Profile.TheVariants.{Named};
 ghost use Rattle.std.specs.Prelude.{◌≡◌, ◌≤◌, drop, length};
 ghost use Rattle.teco_scan.specs.Scan.{after_fillers, scan};
 ghost use Rattle.teco_scan.specs.Seen.{IsKindIn, instruction_in};
@@ -36,13 +35,13 @@ fn text_size(text: &[u8], kind: TokenKind) -> usize
     }
 }
 
-/// Tells what stands at a place of a text after fillers, as `teco_token` of the library for C does. Takes no memory.
-pub fn tell_token(text: &[u8], at: usize, told: &mut ToldToken) -> u8
-    ensures answer { result ≡ token_answer (scan Named (drop at text.now)) }
+/// Tells what stands at a place of a text after fillers, as `teco_token` of the library for C does in the profile Named. Takes no memory.
+pub fn tell_token(profile: Profile, text: &[u8], at: usize, told: &mut ToldToken) -> u8
+    ensures answer { result ≡ token_answer (scan profile (drop at text.now)) }
     ensures from { drop told.new.from text.now ≡ after_fillers (drop at text.now) }
-    ensures to { drop told.new.to text.now ≡ after_token (scan Named (drop at text.now)) }
-    ensures kind { told.new.kind ≡ token_kind (scan Named (drop at text.now)) }
-    ensures size { told.new.size ≡ length (last_text (scan Named (drop at text.now))) }
+    ensures to { drop told.new.to text.now ≡ after_token (scan profile (drop at text.now)) }
+    ensures kind { told.new.kind ≡ token_kind (scan profile (drop at text.now)) }
+    ensures size { told.new.size ≡ length (last_text (scan profile (drop at text.now))) }
     ensures within { (told.new.from ≤ told.new.to) × (told.new.to ≤ length text.now) }
 {
     let at = at.min(text.len());
@@ -50,7 +49,7 @@ pub fn tell_token(text: &[u8], at: usize, told: &mut ToldToken) -> u8
     told.to = text.len();
     told.kind = 0;
     told.size = 0;
-    match token_at(Profile::Named, text, at) {
+    match token_at(profile, text, at) {
         Found::End => NO_TOKEN,
         Found::Fault(code) => code.number(),
         Found::Token(token) => {

@@ -4,6 +4,8 @@ use Rattle.std.specs.Prelude.{codes, decimal}
 use Rattle.std.proofs.Math.ListN.{get_or-append}
 use Rattle.std.proofs.Math.Seq.{take-append_seam, drop-append_seam, get_or-append_seam}
 use Rattle.std.proofs.lemmas.List.{append_cancel_left, drop_more, take-append-drop, length-take-le, length-replicate}
+use Rattle.teco_core.specs.declared.profile.Profile.{Profile}
+use Rattle.teco_core.specs.declared.profile.Profile.TheVariants.{Named}
 use Rattle.teco_journal.specs.HeadFaults.{Differ, IsCutOff, Fails}
 use Rattle.teco_journal.specs.declared.head_reader.HeadFault.{HeadFault}
 use Rattle.teco_journal.specs.declared.head_reader.HeadFault.TheVariants.{Version, Torn, Changed}
@@ -113,22 +115,22 @@ lines_line n = number_line (codes "lines ") n
 start_parts : (a b c x : List ℕ) → ((a ++ b) ++ c) ++ x ≡ a ++ (b ++ (c ++ x))
 start_parts a b c x = append_assoc (a ++ b) c x ∙ append_assoc a b (c ++ x)
 
-beginning_is : (l m : ℕ) (d e : Option ℕ) (i j : List ℕ) → l ≡ m → d ≡ e → i ≡ j
-    → (let a : Beginning = record { lines = l; depth = d; input = i } in
-    let b : Beginning = record { lines = m; depth = e; input = j } in a ≡ b)
-beginning_is l m d e i j p q r = cc
+beginning_is : (s t : Profile) (l m : ℕ) (d e : Option ℕ) (i j : List ℕ) → s ≡ t → l ≡ m → d ≡ e → i ≡ j
+    → (let a : Beginning = record { profile = s; lines = l; depth = d; input = i } in
+    let b : Beginning = record { profile = t; lines = m; depth = e; input = j } in a ≡ b)
+beginning_is s t l m d e i j o p q r = cc
 
-pub start_lines_same : (a b : Beginning) (x y : List ℕ) → HasHead a → HasHead b → start_lines a ++ x ≡ start_lines b ++ y → (a ≡ b) × (x ≡ y)
-start_lines_same a b x y p q e =
+pub start_lines_same : (a b : Beginning) (x y : List ℕ) → HasHead a → HasHead b → a.profile ≡ b.profile → start_lines a ++ x ≡ start_lines b ++ y → (a ≡ b) × (x ≡ y)
+start_lines_same a b x y p q same e =
     let first = number_lines_same (codes "lines ") a.lines b.lines (depth_line a.depth ++ (input_lines a.input ++ x)) (depth_line b.depth ++ (input_lines b.input ++ y)) p.0 q.0
     (sym (start_parts (lines_line a.lines) (depth_line a.depth) (input_lines a.input) x) ∙ e ∙ start_parts (lines_line b.lines) (depth_line b.depth) (input_lines b.input) y) in
     let second = depth_lines_same a.depth b.depth (input_lines a.input ++ x) (input_lines b.input ++ y) p.1 q.1 first.1 in
     let third = input_lines_same a.input b.input x y p.2 q.2 second.1 in
-    (beginning_is a.lines b.lines a.depth b.depth a.input b.input first.0 second.0 third.0, third.1)
+    (beginning_is a.profile b.profile a.lines b.lines a.depth b.depth a.input b.input same first.0 second.0 third.0, third.1)
 
 pub fails_at_lines : (bytes : List ℕ) (fault : HeadFault) → Fails FitsNumber (number_line (codes "lines ")) bytes fault → Fails HasHead start_lines bytes fault
 fails_at_lines bytes Torn h =
-    let beginning : Beginning = record { lines = h.0; depth = None; input = [] } in (
+    let beginning : Beginning = record { profile = Named; lines = h.0; depth = None; input = [] } in (
       beginning,
       (h.1, tt, (let wide : FitsNumber 0 = omega arith in wide)),
       cut_more (lines_line h.0 ++ depth_line None) (input_lines []) bytes (cut_more (lines_line h.0) (depth_line None) bytes h.2),
@@ -147,7 +149,7 @@ after_lines bytes rest n o x y wide fits is e =
 pub fails_at_depth : (bytes rest : List ℕ) (n : ℕ) (fault : HeadFault) → FitsNumber n → bytes ≡ number_line (codes "lines ") n ++ rest → Fails FitsDepth depth_line rest fault
     → Fails HasHead start_lines bytes fault
 fails_at_depth bytes rest n Torn wide is h =
-    let beginning : Beginning = record { lines = n; depth = h.0; input = [] } in (
+    let beginning : Beginning = record { profile = Named; lines = n; depth = h.0; input = [] } in (
       beginning,
       (wide, h.1, (let none : FitsNumber 0 = omega arith in none)),
       cut_more (lines_line n ++ depth_line h.0) (input_lines []) bytes (cut_then (lines_line n) (depth_line h.0) bytes rest is h.2),
@@ -158,7 +160,7 @@ fails_at_depth bytes rest n Version wide is h = h
 pub fails_at_input : (bytes rest left : List ℕ) (n : ℕ) (depth : Option ℕ) (fault : HeadFault) → FitsNumber n → FitsDepth depth
     → bytes ≡ number_line (codes "lines ") n ++ rest → rest ≡ depth_line depth ++ left → Fails FitsInput input_lines left fault → Fails HasHead start_lines bytes fault
 fails_at_input bytes rest left n depth Torn wide deep is there h =
-    let beginning : Beginning = record { lines = n; depth = depth; input = h.0 } in (
+    let beginning : Beginning = record { profile = Named; lines = n; depth = depth; input = h.0 } in (
       beginning,
       (wide, deep, h.1),
       cut_then (lines_line n ++ depth_line depth) (input_lines h.0) bytes left (found_then (lines_line n) (depth_line depth) bytes rest left is there) h.2,
@@ -169,7 +171,7 @@ fails_at_input bytes rest left n depth Changed wide deep is there h = λ o fits 
     (after_lines bytes rest n o x y wide fits is e ∙ ap (λ (l : List ℕ). l ++ y) there ∙ append_assoc (depth_line depth) left y)).1)
 fails_at_input bytes rest left n depth Version wide deep is there h = h
 
-pub start_found : (bytes rest left last input : List ℕ) (n : ℕ) (depth : Option ℕ) → bytes ≡ number_line (codes "lines ") n ++ rest → rest ≡ depth_line depth ++ left
-    → left ≡ input_lines input ++ last → (let o : Beginning = record { lines = n; depth = depth; input = input } in bytes ≡ start_lines o ++ last)
-start_found bytes rest left last input n depth a b c =
+pub start_found : (p : Profile) (bytes rest left last input : List ℕ) (n : ℕ) (depth : Option ℕ) → bytes ≡ number_line (codes "lines ") n ++ rest → rest ≡ depth_line depth ++ left
+    → left ≡ input_lines input ++ last → (let o : Beginning = record { profile = p; lines = n; depth = depth; input = input } in bytes ≡ start_lines o ++ last)
+start_found p bytes rest left last input n depth a b c =
     found_then (lines_line n ++ depth_line depth) (input_lines input) bytes left last (found_then (lines_line n) (depth_line depth) bytes rest left a b) c

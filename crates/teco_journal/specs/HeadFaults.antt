@@ -1,5 +1,6 @@
 -- Why bytes begin with no head.
 use Rattle.std.specs.Prelude.{◌≡◌, ◌≢◌, ℕ, ◌<◌, List, ◌++◌, length, decimal}
+use Rattle.teco_core.specs.declared.profile.Profile.{Profile}
 use Rattle.teco_journal.specs.declared.head_reader.HeadFault.{HeadFault}
 use Rattle.teco_journal.specs.declared.head_reader.HeadFault.TheVariants.{Version, Torn, Changed}
 use Rattle.teco_journal.specs.Heads.{Beginning, HasHead, FitsNumber, version, whole_head}
@@ -13,15 +14,15 @@ Differ these those = (x y : List ℕ) → these ++ x ≢ those ++ y
 abbrev pub IsCutOff : List ℕ → List ℕ → Type 0
 IsCutOff bytes word = (more : List ℕ) × (0 < length more) × (word ≡ bytes ++ more)
 
--- why bytes don't begin with a word, with the line of the version, or with any of some words
+-- why bytes don't begin with a word, with the line of the version of any profile, or with any of some words
 abbrev pub FailsAt : List ℕ → List ℕ → HeadFault → Type 0
 FailsAt word bytes Torn = IsCutOff bytes word
 FailsAt word bytes Changed = Differ word bytes
 FailsAt word bytes Version = ⊥
 
 abbrev pub IsNoVersion : List ℕ → HeadFault → Type 0
-IsNoVersion bytes Version = Differ version bytes
-IsNoVersion bytes Torn = IsCutOff bytes version
+IsNoVersion bytes Version = (p : Profile) → Differ (version p) bytes
+IsNoVersion bytes Torn = (p : Profile) × IsCutOff bytes (version p)
 IsNoVersion bytes Changed = ⊥
 
 abbrev pub Fails : {A : Type 0} → (A → Type 0) → (A → List ℕ) → List ℕ → HeadFault → Type 0
@@ -39,9 +40,9 @@ IsNoNumber digits Version = ⊥
 abbrev pub HasNoHead : List ℕ → Type 0
 HasNoHead bytes = (beginning : Beginning) → HasHead beginning → Begins (whole_head beginning) bytes → ⊥
 
--- Version: neither do they begin with the line of the version, nor are they a front of it. Torn: they are a front of a head, and end
--- before it does. Changed: they begin with that line, and are no front of a head.
+-- Version: for no profile do they begin with the line of the version, nor are they a front of it. Torn: they are a front of a head, and
+-- end before it does. Changed: they begin with such a line, and are no front of a head.
 abbrev pub HeadFails : List ℕ → HeadFault → Type 0
-HeadFails bytes Version = Differ version bytes
+HeadFails bytes Version = (p : Profile) → Differ (version p) bytes
 HeadFails bytes Torn = (beginning : Beginning) × HasHead beginning × IsCutOff bytes (whole_head beginning)
-HeadFails bytes Changed = Begins version bytes × ((beginning : Beginning) → HasHead beginning → Differ (whole_head beginning) bytes)
+HeadFails bytes Changed = (p : Profile) × Begins (version p) bytes × ((beginning : Beginning) → HasHead beginning → Differ (whole_head beginning) bytes)

@@ -1,17 +1,20 @@
 -- The head of a session's file: the version, what the session begins with, and a check of both.
 use Rattle.std.specs.Prelude.{ℕ, ◌<◌, ◌^◌, List, ◌++◌, Option, Some, None, length, codes, decimal}
+use Rattle.teco_core.specs.declared.profile.Profile.{Profile}
+use Rattle.teco_core.specs.declared.profile.Profile.TheVariants.{Named, Wide}
 use Rattle.teco_journal.specs.declared.start.Start.{Start}
 use Rattle.teco_journal.specs.Events.{Event}
 use Rattle.teco_journal.specs.Lines.{check_of, line_of, written}
 
--- What a session begins with: the lines of a page, the depth of its history, and its input.
+-- What a session begins with: its profile, the lines of a page, the depth of its history, and its input.
 pub record Beginning : Type 0 where
+  pub profile : Profile
   pub lines : ℕ
   pub depth : Option ℕ
   pub input : List ℕ
 
 abbrev pub beginning_in : Start → Beginning
-beginning_in start = record { lines = start.lines; depth = start.depth; input = start.input.now }
+beginning_in start = record { profile = start.profile; lines = start.lines; depth = start.depth; input = start.input.now }
 
 -- A number of 64 bits, a depth of so many or none, and an input whose length is one.
 abbrev pub FitsNumber : ℕ → Type 0
@@ -43,11 +46,13 @@ input_lines input = number_line (codes "input ") (length input) ++ input ++ code
 abbrev pub start_lines : Beginning → List ℕ
 start_lines beginning = number_line (codes "lines ") beginning.lines ++ depth_line beginning.depth ++ input_lines beginning.input
 
-abbrev pub version : List ℕ
-version = codes "teco session 1\n"
+-- The line of the version tells the profile.
+abbrev pub version : Profile → List ℕ
+version Named = codes "teco session 1\n"
+version Wide = codes "teco session 1 wide\n"
 
 unfoldable pub head_of : Beginning → List ℕ
-head_of beginning = version ++ start_lines beginning
+head_of beginning = version beginning.profile ++ start_lines beginning
 
 -- the words of the last line of a head
 abbrev pub begun : List ℕ

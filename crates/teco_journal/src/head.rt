@@ -1,12 +1,12 @@
 //! Writing the head of a session's file.
 ghost use Rattle.std.specs.Prelude.{◌≡◌, ◌++◌, OnOk, IfOk};
-ghost use Rattle.teco_journal.specs.Heads.{HasHead, beginning_in, depth_line, first_check, head_of, input_lines, number_line, start_lines, whole_head};
+ghost use Rattle.teco_journal.specs.Heads.{HasHead, beginning_in, depth_line, first_check, head_of, input_lines, number_line, start_lines, version, whole_head};
 
 use crate::check::{CHECK_LENGTH, check_of};
 use crate::numbers::push_number;
 use crate::start::Start;
 use std::alloc::Global;
-use teco_core::NoMemory;
+use teco_core::{NoMemory, Profile};
 
 /// The head of a new file.
 #[derive(Drop)]
@@ -14,6 +14,16 @@ pub struct NewHead {
     pub bytes: Vec<u8>,
     /// The check of its last line, behind which the first record is written.
     pub check: [u8; CHECK_LENGTH],
+}
+
+/// The line of the version, which tells the profile.
+pub fn version_line(profile: Profile) -> &'static [u8]
+    ensures { result.now ≡ version profile }
+{
+    match profile {
+        Profile::Named => b"teco session 1\n",
+        Profile::Wide => b"teco session 1 wide\n",
+    }
 }
 
 /// Puts a line of a word and a number.
@@ -55,7 +65,7 @@ fn push_start_lines(out: &mut Vec<u8>, start: Start<'_>) -> Result<(), NoMemory>
 fn push_head(out: &mut Vec<u8>, start: Start<'_>) -> Result<(), NoMemory>
     ensures { OnOk result (out.new.items ≡ out.old.items ++ head_of (beginning_in start.entry)) }
 {
-    out.extend_from_slice(b"teco session 1\n")?;
+    out.extend_from_slice(version_line(start.profile))?;
     push_start_lines(out, start)
 }
 

@@ -4,9 +4,11 @@ ghost use Rattle.teco_journal.specs.Heads.{FitsDepth, FitsInput, FitsNumber, Has
 ghost use Rattle.teco_journal.specs.HeadFaults.{Fails, FailsAt, HasNoHead, HeadFails, IsNoNumber, IsNoVersion};
 
 use crate::check::{CHECK_LENGTH, check_of};
+use crate::head::version_line;
 use crate::numbers::exact_number;
 use crate::start::Start;
 use memchr::memchr;
+use teco_core::Profile;
 
 /// The head of a file.
 #[derive(Clone, Copy)]
@@ -43,13 +45,17 @@ fn after<'a>(word: &[u8], bytes: &'a [u8]) -> Result<&'a [u8], HeadFault>
     }
 }
 
-/// What comes after the line of the version.
-fn after_version(bytes: &[u8]) -> Result<&[u8], HeadFault>
-    ensures { MatchResult result (λ rest. bytes.now ≡ version ++ rest.now) (IsNoVersion bytes.now) }
+/// The profile that the line of the version tells, and what comes after it.
+fn after_version(bytes: &[u8]) -> Result<(Profile, &[u8]), HeadFault>
+    ensures { MatchResult result (λ found. bytes.now ≡ version found.0 ++ found.1.now) (IsNoVersion bytes.now) }
 {
-    match after(b"teco session 1\n", bytes) {
-        Ok(rest) => Ok(rest),
-        Err(HeadFault::Changed) => Err(HeadFault::Version),
+    match after(version_line(Profile::Named), bytes) {
+        Ok(rest) => Ok((Profile::Named, rest)),
+        Err(HeadFault::Changed) => match after(version_line(Profile::Wide), bytes) {
+            Ok(rest) => Ok((Profile::Wide, rest)),
+            Err(HeadFault::Changed) => Err(HeadFault::Version),
+            Err(fault) => Err(fault),
+        },
         Err(fault) => Err(fault),
     }
 }
@@ -113,15 +119,16 @@ fn input_after(bytes: &[u8]) -> Result<(&[u8], &[u8]), HeadFault>
     Ok((&rest[..length], &rest[length + 1..]))
 }
 
-/// What a session begins with, and what comes after the lines that tell this.
-fn start_after(bytes: &[u8]) -> Result<(Start<'_>, &[u8]), HeadFault>
-    ensures { MatchResult result (λ found. HasHead (beginning_in found.0) × (bytes.now ≡ start_lines (beginning_in found.0) ++ found.1.now))
-        (Fails HasHead start_lines bytes.now) }
+/// What a session in this profile begins with, and what comes after the lines that tell this.
+fn start_after(profile: Profile, bytes: &[u8]) -> Result<(Start<'_>, &[u8]), HeadFault>
+    ensures { MatchResult result (λ found. (found.0.profile ≡ profile) × HasHead (beginning_in found.0)
+        × (bytes.now ≡ start_lines (beginning_in found.0) ++ found.1.now)) (Fails HasHead start_lines bytes.now) }
 {
     let (lines, rest) = number_after(b"lines ", bytes)?;
     let (depth, rest) = depth_after(rest)?;
     let (input, rest) = input_after(rest)?;
     let start = Start {
+        profile,
         lines: lines as usize,
         depth,
         input,
@@ -146,8 +153,8 @@ pub fn read_head(bytes: &[u8]) -> Result<Head<'_>, HeadFault>
     ensures none { OnErr result (HasNoHead bytes.now) }
     ensures fault { IfErr result (HeadFails bytes.now) }
 {
-    let rest = after_version(bytes)?;
-    let (start, rest) = start_after(rest)?;
+    let (profile, rest) = after_version(bytes)?;
+    let (start, rest) = start_after(profile, rest)?;
     let check = check_of(&bytes[..bytes.len() - rest.len()], b"begun\n");
     let rest = after_begun(&check, rest)?;
     Ok(Head { start, check, rest })

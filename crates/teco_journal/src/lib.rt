@@ -11,6 +11,8 @@
 //!     0742fc23a4ee42a0 begun
 //!     3098cc39e0ece123 run 1 Y$$
 //!     9affe36b5c0a6787 undo
+//!
+//! Where the session reads its strings in the wide profile, the first line is `teco session 1 wide`.
 #![tactic(auto)]
 
 mod check;

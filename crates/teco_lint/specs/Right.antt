@@ -5,18 +5,19 @@ use Rattle.teco_scan.specs.Stream.{Asks, requests}
 use Rattle.teco_scan.specs.Stream.Asks.{Run, Undo, Redo, Rewind}
 use Rattle.teco_check.specs.CleanRuns.{IsRight}
 use Rattle.teco_lint.specs.Strings.{is_request}
+use Rattle.teco_core.specs.declared.profile.Profile.{Profile}
 
 -- If the string is run, it runs so, where these registers hold code: it ends by no code of a fault, and leaves them with clean texts.
-abbrev pub IsRightString : List Bool → List ℕ → Type 0
-IsRightString code string = is_request string ≡ false → IsRight code string None
+abbrev pub IsRightString : Profile → List Bool → List ℕ → Type 0
+IsRightString p code string = is_request string ≡ false → IsRight p code string None
 
 -- the same of what a text of the stream asks
-abbrev pub IsRightIfRun : List Bool → Asks → Type 0
-IsRightIfRun code (Run text) = IsRight code text None
-IsRightIfRun code (Undo n) = Unit {0}
-IsRightIfRun code (Redo n) = Unit {0}
-IsRightIfRun code (Rewind n) = Unit {0}
+abbrev pub IsRightIfRun : Profile → List Bool → Asks → Type 0
+IsRightIfRun p code (Run text) = IsRight p code text None
+IsRightIfRun p code (Undo n) = Unit {0}
+IsRightIfRun p code (Redo n) = Unit {0}
+IsRightIfRun p code (Rewind n) = Unit {0}
 
 -- Each text that a run of the commands reads does.
-abbrev pub AreRight : List Bool → List ℕ → Type 0
-AreRight code commands = AllByRecursion (IsRightIfRun code) (requests commands)
+abbrev pub AreRight : Profile → List Bool → List ℕ → Type 0
+AreRight p code commands = AllByRecursion (IsRightIfRun p code) (requests commands)

@@ -5,6 +5,7 @@ use Rattle.teco_scan.specs.Stream.{asks_of, ends_in_escape, is_run, rest_of, tex
 use Rattle.teco_check.specs.Walk.{first_of}
 use Rattle.teco_lint.specs.declared.remarks.Remark.{Remark}
 use Rattle.teco_lint.specs.Told.{TellsFirst}
+use Rattle.teco_core.specs.declared.profile.Profile.{Profile}
 
 -- The texts that a run of the commands reads, and then what comes after the last pair of ESC: that is a string too.
 abbrev pub strings_of : List ℕ → List (List ℕ)
@@ -15,18 +16,18 @@ abbrev pub is_request : List ℕ → Bool
 is_request string = ends_in_escape string && not (is_run (asks_of string))
 
 -- The text has a fault, where these registers hold code.
-abbrev pub has_fault : List Bool → List ℕ → Bool
-has_fault code text = is_some (first_of code text)
+abbrev pub has_fault : Profile → List Bool → List ℕ → Bool
+has_fault p code text = is_some (first_of p code text)
 
 -- The string is a text with a fault.
-abbrev pub is_faulty_string : List Bool → List ℕ → Bool
-is_faulty_string code string = if is_request string then false else has_fault code string
+abbrev pub is_faulty_string : Profile → List Bool → List ℕ → Bool
+is_faulty_string p code string = if is_request string then false else has_fault p code string
 
-abbrev pub is_faulty : List Bool → List ℕ → Bool
-is_faulty code commands = list_any (is_faulty_string code) (strings_of commands)
+abbrev pub is_faulty : Profile → List Bool → List ℕ → Bool
+is_faulty p code commands = list_any (is_faulty_string p code) (strings_of commands)
 
 -- Of each string that is no request, the first of which begins at this place, the first fault is told. The next string begins after the
 -- second ESC of the pair that ends one.
-abbrev pub AreTold : List Bool → List Remark → ℕ → List (List ℕ) → Type 0
-AreTold code remarks from [] = Unit {0}
-AreTold code remarks from (s ∷ ss) = (is_request s ≡ false → TellsFirst code remarks from s) × AreTold code remarks (from + length s + 1) ss
+abbrev pub AreTold : Profile → List Bool → List Remark → ℕ → List (List ℕ) → Type 0
+AreTold p code remarks from [] = Unit {0}
+AreTold p code remarks from (s ∷ ss) = (is_request s ≡ false → TellsFirst p code remarks from s) × AreTold p code remarks (from + length s + 1) ss

@@ -10,6 +10,7 @@ use Rattle.teco_lint.specs.declared.remarks.FaultIn.{FaultIn}
 use Rattle.teco_lint.specs.declared.remarks.Remark.{Remark}
 use Rattle.teco_lint.specs.declared.remarks.What.{What}
 use Rattle.teco_lint.specs.declared.remarks.What.TheVariants as whats
+use Rattle.teco_core.specs.declared.profile.Profile.{Profile}
 
 abbrev pub is_in_text : Wrong → Bool
 is_in_text wrongs.InText = true
@@ -47,6 +48,6 @@ HasRemark remarks r = (test : Remark → Bool) → test r ≡ true → IsTold te
 
 -- What is told of a command string that begins at a place: its first fault, at its place. Where that is in a text which the string puts
 -- where code is, some fault is told.
-pub record TellsFirst (code : List Bool) (remarks : List Remark) (from : ℕ) (string : List ℕ) : Type 0 where
-  pub own : (f : Fault) → first_of code string ≡ Some f → is_in_text f.wrong ≡ false → HasRemark remarks (moved (own_fault (length string) f) from)
-  pub some : is_some (first_of code string) ≡ true → IsTold is_fault remarks
+pub record TellsFirst (p : Profile) (code : List Bool) (remarks : List Remark) (from : ℕ) (string : List ℕ) : Type 0 where
+  pub own : (f : Fault) → first_of p code string ≡ Some f → is_in_text f.wrong ≡ false → HasRemark remarks (moved (own_fault (length string) f) from)
+  pub some : is_some (first_of p code string) ≡ true → IsTold is_fault remarks

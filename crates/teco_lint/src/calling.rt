@@ -50,9 +50,9 @@ impl RegisterUses {
 
     /// Notes what a token does, and what the tokens do of a text that it puts where code is.
     #[cycle(noting)]
-    fn note_token(&mut self, text: &[u8], token: &Token, texts: usize)
+    fn note_token(&mut self, profile: Profile, text: &[u8], token: &Token, texts: usize)
         ensures { Notes (λ q. instruction_in text.now token.now.kind ≡ register_call q)
-            (MayCall (instruction_in text.now token.now.kind)) self.old.called self.new.called }
+            (MayCall profile (instruction_in text.now token.now.kind)) self.old.called self.new.called }
     {
         let TokenKind::Item(item) = token.kind else {
             return;
@@ -67,7 +67,7 @@ impl RegisterUses {
                     && span.from <= span.to
                     && span.to <= text.len()
                 {
-                    self.note_text(&text[span.from..span.to], texts - 1);
+                    self.note_text(profile, &text[span.from..span.to], texts - 1);
                 }
             }
             _ => {}
@@ -76,16 +76,16 @@ impl RegisterUses {
 
     /// Notes what the tokens of a text do. Where none can be read it goes on after a byte.
     #[cycle(noting)]
-    fn note_text(&mut self, text: &[u8], texts: usize)
-        ensures { Notes (λ q. Calls q text.now) (λ q. CallsWithin q text.now)
+    fn note_text(&mut self, profile: Profile, text: &[u8], texts: usize)
+        ensures { Notes (λ q. Calls profile q text.now) (λ q. CallsWithin profile q text.now)
             self.old.called self.new.called }
     {
         let mut at = 0;
         while at < text.len() {
-            match token_at(Profile::Named, text, at) {
+            match token_at(profile, text, at) {
                 Found::Token(token) => {
                     at = token.span.to;
-                    self.note_token(text, &token, texts);
+                    self.note_token(profile, text, &token, texts);
                 }
                 Found::End => return,
                 Found::Fault(_) => at = filler_end(text, at).saturating_add(1),
@@ -94,9 +94,9 @@ impl RegisterUses {
     }
 
     /// Notes that a register may have a text at first, and what the tokens of that do if the register is called.
-    fn note_register(&mut self, first: &Registers, register: Reg)
-        ensures { (strings : List (List ℕ)) → AllAreCalled first.now strings self.old.called
-            → AllAreCalled first.now strings self.new.called }
+    fn note_register(&mut self, profile: Profile, first: &Registers, register: Reg)
+        ensures { (strings : List (List ℕ)) → AllAreCalled profile first.now strings self.old.called
+            → AllAreCalled profile first.now strings self.new.called }
     {
         let index = register.index();
         let text = first.text(register);
@@ -104,48 +104,48 @@ impl RegisterUses {
         if !self.called[index] {
             return;
         }
-        self.note_text(text, MOST_TEXTS);
+        self.note_text(profile, text, MOST_TEXTS);
     }
 
     /// The same of each register.
-    fn note_registers(&mut self, first: &Registers)
-        ensures { (strings : List (List ℕ)) → AllAreCalled first.now strings self.old.called
-            → AllAreCalled first.now strings self.new.called }
+    fn note_registers(&mut self, profile: Profile, first: &Registers)
+        ensures { (strings : List (List ℕ)) → AllAreCalled profile first.now strings self.old.called
+            → AllAreCalled profile first.now strings self.new.called }
     {
         'registers: for index in 0..REGISTERS {
-            self.note_register(first, register_at(index));
+            self.note_register(profile, first, register_at(index));
         }
     }
 
     /// The same of each command string, and of what comes after the last.
-    fn note_strings(&mut self, commands: &[u8])
-        ensures { Notes (λ q. AnyCalls q (strings_of commands.now))
-            (λ q. AnyCallsWithin q (strings_of commands.now)) self.old.called self.new.called }
+    fn note_strings(&mut self, profile: Profile, commands: &[u8])
+        ensures { Notes (λ q. AnyCalls profile q (strings_of commands.now))
+            (λ q. AnyCallsWithin profile q (strings_of commands.now)) self.old.called self.new.called }
     {
         let mut start = 0;
         while let Some(end) = string_end(commands, start) {
-            self.note_text(&commands[start..end], MOST_TEXTS);
+            self.note_text(profile, &commands[start..end], MOST_TEXTS);
             start = end + 1;
         }
-        self.note_text(&commands[start..], MOST_TEXTS);
+        self.note_text(profile, &commands[start..], MOST_TEXTS);
     }
 }
 
 /// Which registers the commands call, and which have or get a text, where the registers hold this at first.
 ///
 /// A text counts if it is put where code is, or if it is there at first. So the commands are gone over until no more registers are called.
-pub fn registers_in(commands: &[u8], first: &Registers) -> RegisterUses
-    ensures { AreCalledOver first.now result.called commands.now }
+pub fn registers_in(profile: Profile, commands: &[u8], first: &Registers) -> RegisterUses
+    ensures { AreCalledOver profile first.now result.called commands.now }
 {
     let mut registers = RegisterUses {
         called: [false; REGISTERS],
         given: [false; REGISTERS],
     };
-    registers.note_strings(commands);
+    registers.note_strings(profile, commands);
     'passes: for _i in 0..REGISTERS {
         let before = registers.called;
-        registers.note_registers(first);
-        registers.note_strings(commands);
+        registers.note_registers(profile, first);
+        registers.note_strings(profile, commands);
         if before == registers.called {
             return registers;
         }

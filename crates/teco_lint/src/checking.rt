@@ -16,7 +16,7 @@ use crate::remarks::{Hint, Remark};
 use crate::requests::is_request;
 use std::alloc::Global;
 use teco_check::{MOST_TEXTS, REGISTERS, fault_of, first_fault_by_tags};
-use teco_core::{NoMemory, Registers};
+use teco_core::{NoMemory, Profile, Registers};
 use teco_scan::{ends_in_escape, filler_end};
 
 /// What is told of commands.
@@ -33,15 +33,16 @@ pub struct Advice {
 /// Checks a command string that begins at a place. Says whether it has a fault.
 fn check_string(
     alloc: Global,
+    profile: Profile,
     remarks: &mut Vec<Remark>,
     hinting: &mut Hinting,
     registers: &RegisterUses,
     string: &[u8],
     from: usize,
 ) -> Result<bool, NoMemory>
-    ensures found { IfOk result (λ faulty. faulty ≡ is_faulty_string registers.now.called string.now) }
-    ensures right { IfOk result (λ faulty. faulty ≡ false → IsRightString registers.now.called string.now) }
-    ensures told { is_request string.now ≡ false → IfOk result (λ _. TellsFirst registers.now.called remarks.new.items from string.now) }
+    ensures found { IfOk result (λ faulty. faulty ≡ is_faulty_string profile registers.now.called string.now) }
+    ensures right { IfOk result (λ faulty. faulty ≡ false → IsRightString profile registers.now.called string.now) }
+    ensures told { is_request string.now ≡ false → IfOk result (λ _. TellsFirst profile registers.now.called remarks.new.items from string.now) }
     ensures kept { (test : Remark → Bool) → IsTold test remarks.old.items → IfOk result (λ _. IsTold test remarks.new.items) }
 {
     if is_request(string) {
@@ -49,12 +50,20 @@ fn check_string(
     }
     let mut hints = Vec::new(alloc);
     push_hints(&mut hints, hinting, string, from, &registers.given)?;
-    let Some(first) = fault_of(alloc, string, &registers.called) else {
+    let Some(first) = fault_of(alloc, profile, string, &registers.called) else {
         push_both(remarks, &[], &hints)?;
         return Ok(false);
     };
     let mut faults = Vec::new(alloc);
-    push_faults(&mut faults, alloc, string, from, &registers.called, first)?;
+    push_faults(
+        &mut faults,
+        alloc,
+        profile,
+        string,
+        from,
+        &registers.called,
+        first,
+    )?;
     push_both(remarks, &faults, &hints)?;
     Ok(true)
 }
@@ -63,16 +72,17 @@ fn check_string(
 /// it has one.
 pub fn check_text(
     alloc: Global,
+    profile: Profile,
     remarks: &mut Vec<Remark>,
     text: &[u8],
     code: &[bool; REGISTERS],
 ) -> Result<bool, NoMemory>
-    ensures found { IfOk result (λ faulty. faulty ≡ has_fault code.now text.now) }
-    ensures clean { IfOk result (λ faulty. faulty ≡ false → IsClean (held code.now) text.now) }
+    ensures found { IfOk result (λ faulty. faulty ≡ has_fault profile code.now text.now) }
+    ensures clean { IfOk result (λ faulty. faulty ≡ false → IsClean profile (held code.now) text.now) }
 {
-    let first = first_fault_by_tags(alloc, text, code, MOST_TEXTS);
+    let first = first_fault_by_tags(alloc, profile, text, code, MOST_TEXTS);
     if let Some(first) = first {
-        push_faults(remarks, alloc, text, 0, code, first)?;
+        push_faults(remarks, alloc, profile, text, 0, code, first)?;
     }
     Ok(first.is_some())
 }
@@ -90,38 +100,59 @@ fn hint_on_rest(rest: &[u8]) -> Option<Hint> {
 }
 
 /// Checks commands as [`check_over`] does, where the registers hold nothing at first.
-pub fn check(alloc: Global, commands: &[u8]) -> Result<Advice, NoMemory>
-    ensures found { IfOk result (λ advice. advice.is_faulty ≡ is_faulty advice.code commands.now) }
-    ensures right { IfOk result (λ advice. advice.is_faulty ≡ false → AreRight advice.code commands.now) }
-    ensures code { IfOk result (λ advice. AreCalled advice.code commands.now) }
-    ensures told { IfOk result (λ advice. AreTold advice.code advice.remarks.items 0 (strings_of commands.now)) }
+pub fn check(alloc: Global, profile: Profile, commands: &[u8]) -> Result<Advice, NoMemory>
+    ensures found { IfOk result (λ advice. advice.is_faulty ≡ is_faulty profile advice.code commands.now) }
+    ensures right { IfOk result (λ advice. advice.is_faulty ≡ false → AreRight profile advice.code commands.now) }
+    ensures code { IfOk result (λ advice. AreCalled profile advice.code commands.now) }
+    ensures told { IfOk result (λ advice. AreTold profile advice.code advice.remarks.items 0 (strings_of commands.now)) }
 {
-    check_over(alloc, commands, &Registers::new(alloc))
+    check_over(alloc, profile, commands, &Registers::new(alloc))
 }
 
-/// Checks commands, each command string and what comes after the last, without running them, where the registers hold this at first.
+/// Checks commands in a profile, each command string and what comes after the last, without running them, where the registers hold this at first.
 ///
 /// The code registers are those that the commands call. A string is faulty exactly where its first fault is found. Without a faulty
 /// one no string of a run of the commands ends by ILL, IQN, IQC, UTC, BNI or TAG, if the code registers hold clean texts at first.
-pub fn check_over(alloc: Global, commands: &[u8], first: &Registers) -> Result<Advice, NoMemory>
-    ensures found { IfOk result (λ advice. advice.is_faulty ≡ is_faulty advice.code commands.now) }
-    ensures right { IfOk result (λ advice. advice.is_faulty ≡ false → AreRight advice.code commands.now) }
-    ensures code { IfOk result (λ advice. AreCalledOver first.now advice.code commands.now) }
-    ensures told { IfOk result (λ advice. AreTold advice.code advice.remarks.items 0 (strings_of commands.now)) }
+pub fn check_over(
+    alloc: Global,
+    profile: Profile,
+    commands: &[u8],
+    first: &Registers,
+) -> Result<Advice, NoMemory>
+    ensures found { IfOk result (λ advice. advice.is_faulty ≡ is_faulty profile advice.code commands.now) }
+    ensures right { IfOk result (λ advice. advice.is_faulty ≡ false → AreRight profile advice.code commands.now) }
+    ensures code { IfOk result (λ advice. AreCalledOver profile first.now advice.code commands.now) }
+    ensures told { IfOk result (λ advice. AreTold profile advice.code advice.remarks.items 0 (strings_of commands.now)) }
 {
-    let registers = registers_in(commands, first);
+    let registers = registers_in(profile, commands, first);
     let mut remarks = Vec::new(alloc);
-    let mut hinting = Hinting::new();
+    let mut hinting = Hinting::new(profile);
     let mut faulty = false;
     let mut start = 0;
     while let Some(end) = string_end(commands, start) {
         let string = &commands[start..end];
-        faulty |= check_string(alloc, &mut remarks, &mut hinting, &registers, string, start)?;
+        faulty |= check_string(
+            alloc,
+            profile,
+            &mut remarks,
+            &mut hinting,
+            &registers,
+            string,
+            start,
+        )?;
         start = end + 1;
     }
     hinting.in_rest = true;
     let rest = &commands[start..];
-    faulty |= check_string(alloc, &mut remarks, &mut hinting, &registers, rest, start)?;
+    faulty |= check_string(
+        alloc,
+        profile,
+        &mut remarks,
+        &mut hinting,
+        &registers,
+        rest,
+        start,
+    )?;
     push_last_hints(&mut remarks, &hinting, commands, hint_on_rest(rest), faulty)?;
     Ok(Advice {
         code: registers.called,

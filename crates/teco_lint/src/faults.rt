@@ -14,13 +14,13 @@ use teco_scan::{Found, Item, Span, TokenKind, token_at};
 const MOST_FAULTS: u32 = 20;
 
 /// The text that the token of a fault puts into a register.
-fn text_put(text: &[u8], fault: &FaultIn) -> Option<Span> {
+fn text_put(profile: Profile, text: &[u8], fault: &FaultIn) -> Option<Span> {
     let inside = part(text, fault.inside);
     let at = fault.at.saturating_sub(fault.inside.from);
     if at > inside.len() {
         return None;
     }
-    match token_at(Profile::Named, inside, at) {
+    match token_at(profile, inside, at) {
         Found::Token(token) => match token.kind {
             TokenKind::Item(Item::SetText(_, span)) => Some(Span {
                 from: fault.inside.from.saturating_add(span.from),
@@ -40,7 +40,13 @@ fn is_in_text(wrong: Wrong) -> bool
 
 /// The fault itself, where a fault says that it is in a text which is put where code is. Each text inside is looked into one text less
 /// deep, as the check did.
-fn innermost(alloc: Global, text: &[u8], code: &[bool; REGISTERS], fault: Fault) -> FaultIn
+fn innermost(
+    alloc: Global,
+    profile: Profile,
+    text: &[u8],
+    code: &[bool; REGISTERS],
+    fault: Fault,
+) -> FaultIn
     ensures own { is_in_text fault.wrong ≡ false → result ≡ own_fault (length text.now) fault }
 {
     let mut found = FaultIn {
@@ -54,10 +60,11 @@ fn innermost(alloc: Global, text: &[u8], code: &[bool; REGISTERS], fault: Fault)
     let mut texts = MOST_TEXTS;
     while texts > 0 && is_in_text(found.wrong) {
         texts -= 1;
-        let Some(inside) = text_put(text, &found) else {
+        let Some(inside) = text_put(profile, text, &found) else {
             return found;
         };
-        let Some(fault) = first_fault_by_tags(alloc, part(text, inside), code, texts) else {
+        let Some(fault) = first_fault_by_tags(alloc, profile, part(text, inside), code, texts)
+        else {
             return found;
         };
         found = FaultIn {
@@ -91,6 +98,7 @@ fn moved(fault: &FaultIn, from: usize) -> Remark
 pub(crate) fn push_faults(
     faults: &mut Vec<Remark>,
     alloc: Global,
+    profile: Profile,
     string: &[u8],
     from: usize,
     code: &[bool; REGISTERS],
@@ -101,17 +109,17 @@ pub(crate) fn push_faults(
     ensures some { OnOk result (list_any is_fault faults.new.items ≡ true) }
 {
     let mut text = Vec::from_slice(alloc, string)?;
-    let mut fault = innermost(alloc, &text, code, first);
+    let mut fault = innermost(alloc, profile, &text, code, first);
     let told = moved(&fault, from);
     faults.push(told)?;
     for _ in 1..MOST_FAULTS {
-        if !pass_over(&mut text, &fault) {
+        if !pass_over(&mut text, profile, &fault) {
             return Ok(());
         }
-        let Some(next) = fault_of(alloc, &text, code) else {
+        let Some(next) = fault_of(alloc, profile, &text, code) else {
             return Ok(());
         };
-        let later = innermost(alloc, &text, code, next);
+        let later = innermost(alloc, profile, &text, code, next);
         if later.at <= fault.at {
             return Ok(());
         }

@@ -2,19 +2,24 @@
 ghost use Rattle.std.specs.Prelude.{Bool, OnOk};
 ghost use Rattle.teco_lint.specs.Told.{IsTold};
 
+use crate::forms::{Before, form_of};
 use crate::passing::part;
 use crate::remarks::{Hint, Remark, What};
+use std::alloc::Global;
 use teco_check::REGISTERS;
-use teco_core::{NoMemory, Profile, Reg};
+use teco_core::{CaseMode, Code, NoMemory, Profile, Reg};
 use teco_messages::letter;
 use teco_scan::{
     Bare, BlockMark, Command, Found, Item, LevelCommand, RegisterCommand, Span, TextCommand, Token,
     TokenKind, filler_end, token_at,
 };
+use teco_search::Pattern;
 
 /// What has been seen of the commands.
 #[derive(Clone, Copy)]
 pub(crate) struct Hinting {
+    /// The language of the commands.
+    profile: Profile,
     /// How many iterations are open.
     iterations: usize,
     /// Whether `EX` is the command before in its list, and no jump can have gone past it.
@@ -23,6 +28,8 @@ pub(crate) struct Hinting {
     has_jump: bool,
     /// Whether a number comes before.
     has_number: bool,
+    /// What is spelled before, as far as it is numbers alone.
+    before: Before,
     has_exit: bool,
     has_page: bool,
     /// Whether the last pair of ESC has come.
@@ -32,12 +39,14 @@ pub(crate) struct Hinting {
 }
 
 impl Hinting {
-    pub(crate) fn new() -> Self {
+    pub(crate) fn new(profile: Profile) -> Self {
         Self {
+            profile,
             iterations: 0,
             after_exit: false,
             has_jump: false,
             has_number: false,
+            before: Before::Nothing,
             has_exit: false,
             has_page: false,
             in_rest: false,
@@ -49,8 +58,9 @@ impl Hinting {
     fn begin(&mut self, text: &[u8]) {
         self.iterations = 0;
         self.after_exit = false;
-        self.has_jump = has_jump(text);
+        self.has_jump = has_jump(self.profile, text);
         self.has_number = false;
+        self.before = Before::Nothing;
     }
 
     fn of_command(&mut self, command: Command) -> Option<Hint> {
@@ -66,14 +76,14 @@ impl Hinting {
         None
     }
 
-    fn of_text(&mut self, command: TextCommand, text: &[u8]) -> Option<Hint> {
+    fn of_text(&mut self, alloc: Global, command: TextCommand, text: &[u8]) -> Option<Hint> {
         match command {
             TextCommand::SearchPages | TextCommand::SearchPagesQuietly => self.has_page = true,
             TextCommand::Go if self.has_number => return Some(Hint::NumberBeforeJump),
             TextCommand::Search => {}
             _ => return None,
         }
-        has_caret(text).then_some(Hint::Caret)
+        of_search_text(alloc, text)
     }
 
     fn of_call(&mut self, register: Reg, given: &[bool; REGISTERS]) -> Option<Hint> {
@@ -85,22 +95,29 @@ impl Hinting {
         Some(Hint::NeverSet(letter(register)))
     }
 
-    fn of_item(&mut self, text: &[u8], item: Item) -> Option<Hint> {
+    fn of_item(&mut self, alloc: Global, text: &[u8], item: Item) -> Option<Hint> {
         match item {
             Item::Bare(Bare::Command(command)) => self.of_command(command),
             Item::Bare(Bare::Level(LevelCommand::Append)) if !self.has_number => {
                 self.has_page = true;
                 None
             }
-            Item::Text(command, span) => self.of_text(command, part(text, span)),
-            Item::Replace(span, _) => has_caret(part(text, span)).then_some(Hint::Caret),
+            Item::Text(command, span) => self.of_text(alloc, command, part(text, span)),
+            Item::Replace(span, _) => of_search_text(alloc, part(text, span)),
             _ => None,
         }
     }
 
     /// The hint at a token, if there is one.
-    fn of_token(&mut self, text: &[u8], token: &Token, given: &[bool; REGISTERS]) -> Option<Hint> {
+    fn of_token(
+        &mut self,
+        alloc: Global,
+        text: &[u8],
+        token: &Token,
+        given: &[bool; REGISTERS],
+    ) -> Option<Hint> {
         let is_after = self.after_exit;
+        let form = form_of(token, self.before);
         match token.kind {
             TokenKind::Escape => return None,
             TokenKind::Tag(_) => {
@@ -126,11 +143,14 @@ impl Hinting {
             TokenKind::Item(Item::Register(RegisterCommand::Macro, register)) => {
                 self.of_call(register, given)
             }
-            TokenKind::Item(item) => self.of_item(text, item),
+            TokenKind::Item(item) => self.of_item(alloc, text, item),
             _ => None,
         };
         if is_after {
             return Some(Hint::AfterExit);
+        }
+        if let Some(form) = form {
+            return Some(Hint::LeftOut(form));
         }
         if hint.is_none() && !self.in_rest && is_empty_at_end(text, token) {
             return Some(Hint::EmptyText);
@@ -140,10 +160,10 @@ impl Hinting {
 }
 
 /// Whether a text has a jump before its first fault.
-fn has_jump(text: &[u8]) -> bool {
+fn has_jump(profile: Profile, text: &[u8]) -> bool {
     let mut at = 0;
     while at < text.len() {
-        let Found::Token(token) = token_at(Profile::Named, text, at) else {
+        let Found::Token(token) = token_at(profile, text, at) else {
             return false;
         };
         if let TokenKind::Item(Item::Text(TextCommand::Go, _)) = token.kind {
@@ -174,6 +194,22 @@ fn has_caret(text: &[u8]) -> bool {
         caret = *byte == b'^';
     }
     false
+}
+
+/// The hint on a search text, if there is one.
+fn of_search_text(alloc: Global, text: &[u8]) -> Option<Hint> {
+    if is_wrong_search_text(alloc, text) {
+        return Some(Hint::WrongSearchText);
+    }
+    has_caret(text).then_some(Hint::Caret)
+}
+
+/// Whether a text is one that a search can't read. The empty one stands for the text before it.
+fn is_wrong_search_text(alloc: Global, text: &[u8]) -> bool {
+    if text.is_empty() {
+        return false;
+    }
+    matches!(Pattern::read(alloc, text, CaseMode::Exact), Err(Code::Ice))
 }
 
 /// Whether a token gives a number to the next one.
@@ -210,16 +246,19 @@ pub(crate) fn push_hints(
     given: &[bool; REGISTERS],
 ) -> Result<(), NoMemory> {
     hinting.begin(text);
+    let alloc = *remarks.allocator();
     let mut at = 0;
     while at < text.len() {
-        let Found::Token(token) = token_at(Profile::Named, text, at) else {
+        let Found::Token(token) = token_at(hinting.profile, text, at) else {
             return Ok(());
         };
         at = token.span.to;
-        if let Some(hint) = hinting.of_token(text, &token, given) {
+        if let Some(hint) = hinting.of_token(alloc, text, &token, given) {
             push_hint(remarks, from.saturating_add(token.span.from), hint)?;
         }
         hinting.has_number = is_number(&token);
+        let before = hinting.before;
+        hinting.before = before.and(&token);
     }
     Ok(())
 }

@@ -1,6 +1,9 @@
 //! What TECO-11 has and this TECO leaves out.
 ghost use Rattle.std.specs.Prelude.{◌≡◌, ◌≤◌, length, IfSome};
 
+use crate::forms::Form;
+use teco_core::Profile;
+
 /// What follows the name of a command that is left out.
 #[derive(Clone, Copy)]
 pub(crate) enum Operands {
@@ -78,28 +81,32 @@ static WITH_F: [LeftOut; 12] = rows! {
     Nothing "F|" "goes to the second part" "Otwo$, and Oend$' !two! .. !end! in the place of | .. '";
 };
 
-/// The commands with a colon.
-static WITH_COLON: [LeftOut; 13] = rows! {
-    Register ":X" "appends lines to a register" "Gq and Xq over both";
-    RegisterAndText ":^U" "appends a text to a register" "Gq, the text by I, and Xq over both";
-    Nothing ":;" "leaves where the last search found its text" "\"S0;' after a search with a colon";
+/// The commands that the wider language has.
+static IN_WIDE: [LeftOut; 9] = rows! {
+    Register ":X" "appends lines to a register" "--wide, or Gq and Xq over both";
+    RegisterAndText ":^U" "appends a text to a register" "--wide, or Gq, the text by I, and Xq over both";
+    Nothing ":;" "leaves where the last search found its text" "--wide, or \"S0;' after a search with a colon";
+    Nothing ":Y" "reads a page, and gives whether it could" "--wide, or ^N before Y";
+    Nothing ":P" "writes and reads pages, and gives whether it could" "--wide, or ^N before P";
+    Nothing ":A" "appends a page, and gives whether it could" "--wide, or ^N before A";
+    Nothing "\"=" "tests for 0" "--wide, or \"E";
+    Nothing "\"<" "tests for less than 0" "--wide, or \"L";
+    Nothing "\">" "tests for more than 0" "--wide, or \"G";
+};
+
+/// The other commands with a colon.
+static WITH_COLON: [LeftOut; 7] = rows! {
     Register ":]" "pops, and gives whether it could" "]q where something was pushed";
     Register ":M" "runs a text with the registers of its caller" "Mq, which does so";
     Nothing ":C" "goes on, and gives whether it could" "a test of .-Z before C";
     Nothing ":R" "goes back, and gives whether it could" "a test of . before R";
     Nothing ":J" "goes to a place, and gives whether it could" "a test before J";
     Nothing ":D" "deletes, and gives whether it could" "a test of .-Z before D";
-    Nothing ":Y" "reads a page, and gives whether it could" "^N before Y";
-    Nothing ":P" "writes and reads pages, and gives whether it could" "^N before P";
     Nothing ":^T" "prints a byte as it is" "n^T, which does so";
-    Nothing ":A" "appends a page, and gives whether it could" "^N before A";
 };
 
 /// The others.
-static OTHERS: [LeftOut; 20] = rows! {
-    Nothing "\"=" "tests for 0" "\"E";
-    Nothing "\"<" "tests for less than 0" "\"L";
-    Nothing "\">" "tests for more than 0" "\"G";
+static OTHERS: [LeftOut; 17] = rows! {
     Nothing "\"C" "tests for a byte of a name" "\"R, and tests of the other bytes";
     Nothing "===" "prints in hexadecimal" "== prints in octal";
     Nothing "^B" "gives the date" "leave it out";
@@ -118,6 +125,32 @@ static OTHERS: [LeftOut; 20] = rows! {
     Nothing "?" "shows each command as it runs" "teco-debug";
     Nothing "W" "shows the screen" "nT, or teco-term";
 };
+
+/// Forms of commands that are here.
+static FORMS: [LeftOut; 8] = rows! {
+    Register "nQ" "gives the code of byte n of a text" "Gq, and nA where it stands";
+    Register "m,nU" "sets n, and gives m" "nUq, and mUr";
+    Nothing "^T alone" "reads a byte of the terminal" "nothing";
+    Nothing "nV" "types lines on each side" "1-nT nT";
+    Nothing "nPW" "writes the page n times" "n<PW>";
+    RegisterAndText "n^U" "puts a byte into a register" "nI$ and .-1,.Xq";
+    Text "m,nS" "looks for a text that begins within a bound" ":Stext$ and a test of .";
+    Nothing "^X alone" "gives whether searches tell the cases apart" "a register that says it";
+};
+
+/// The row of a form.
+pub(crate) fn row_of_form(form: Form) -> &'static LeftOut {
+    match form {
+        Form::NumberAndRegister => &FORMS[0],
+        Form::PairAndRegister => &FORMS[1],
+        Form::TypeByteAlone => &FORMS[2],
+        Form::NumberedView => &FORMS[3],
+        Form::NumberedWrite => &FORMS[4],
+        Form::NumberedText => &FORMS[5],
+        Form::BoundedSearch => &FORMS[6],
+        Form::CaseModeAlone => &FORMS[7],
+    }
+}
 
 /// Whether a byte is a letter in either case, where that is a capital; or the byte itself.
 fn is_letter(byte: u8, written: u8) -> bool {
@@ -162,9 +195,14 @@ fn row_in(rows: &'static [LeftOut], bytes: &[u8]) -> Option<(&'static LeftOut, u
 }
 
 /// The row of the command that the bytes begin with as it is written there, if it has one, and the length of its name.
-fn row_as_written(bytes: &[u8]) -> Option<(&'static LeftOut, usize)>
+fn row_as_written(profile: Profile, bytes: &[u8]) -> Option<(&'static LeftOut, usize)>
     ensures { IfSome result (λ found. found.1 ≤ length bytes.now) }
 {
+    if profile == Profile::Named
+        && let Some(found) = row_in(&IN_WIDE, bytes)
+    {
+        return Some(found);
+    }
     if let Some(found) = row_in(&ON_FILES, bytes) {
         return Some(found);
     }
@@ -180,17 +218,17 @@ fn row_as_written(bytes: &[u8]) -> Option<(&'static LeftOut, usize)>
     row_in(&OTHERS, bytes)
 }
 
-/// The row of the command that the bytes begin with, if it is left out, and the length of its name. Where no row has the colon of a
+/// The row of the command that the bytes begin with, if the profile leaves it out, and the length of its name. Where no row has the colon of a
 /// command, its row is that of the name alone: in TECO-11 most commands take one, and give whether they could.
-pub(crate) fn row_of(bytes: &[u8]) -> Option<(&'static LeftOut, usize)>
+pub(crate) fn row_of(profile: Profile, bytes: &[u8]) -> Option<(&'static LeftOut, usize)>
     ensures { IfSome result (λ found. found.1 ≤ length bytes.now) }
 {
-    if let Some(found) = row_as_written(bytes) {
+    if let Some(found) = row_as_written(profile, bytes) {
         return Some(found);
     }
     let [b':', after @ ..] = bytes else {
         return None;
     };
-    let (row, len) = row_as_written(after)?;
+    let (row, len) = row_as_written(profile, after)?;
     Some((row, len + 1))
 }

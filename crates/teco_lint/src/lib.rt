@@ -5,6 +5,7 @@ mod calling;
 mod checking;
 mod cutting;
 mod faults;
+mod forms;
 mod hinting;
 mod left_out;
 mod listing;
@@ -18,6 +19,7 @@ mod spelling;
 
 pub use calling::register_at;
 pub use checking::{Advice, check, check_over, check_text};
+pub use forms::Form;
 pub use remarks::{FaultIn, Hint, Remark, What};
 pub use reporting::{report, report_part};
 pub use sentences::show_remark;

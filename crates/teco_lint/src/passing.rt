@@ -46,8 +46,8 @@ fn operands_len(bytes: &[u8], takes: Operands) -> usize {
 }
 
 /// How many of these bytes are passed over, where they begin with no token.
-fn unread_len(bytes: &[u8], code: Code) -> usize {
-    if let Some((row, len)) = row_of(bytes) {
+fn unread_len(profile: Profile, bytes: &[u8], code: Code) -> usize {
+    if let Some((row, len)) = row_of(profile, bytes) {
         let operands = operands_len(after(bytes, len), row.takes);
         return len.saturating_add(operands);
     }
@@ -58,7 +58,7 @@ fn unread_len(bytes: &[u8], code: Code) -> usize {
     }
     let modifiers = modifiers_len(bytes);
     if modifiers > 0 {
-        return modifiers.saturating_add(token_len(after(bytes, modifiers)));
+        return modifiers.saturating_add(token_len(profile, after(bytes, modifiers)));
     }
     name
 }
@@ -72,20 +72,22 @@ fn takes_after(name: &[u8]) -> Operands {
 }
 
 /// How many bytes the token has that these begin with.
-fn token_len(bytes: &[u8]) -> usize {
-    match token_at(Profile::Named, bytes, 0) {
+fn token_len(profile: Profile, bytes: &[u8]) -> usize {
+    match token_at(profile, bytes, 0) {
         Found::Token(token) => token.span.to,
         _ => 1,
     }
 }
 
 /// How many bytes are passed over at a fault; none where what comes after it can't be told.
-fn passed_len(bytes: &[u8], wrong: Wrong) -> Option<usize> {
+fn passed_len(profile: Profile, bytes: &[u8], wrong: Wrong) -> Option<usize> {
     match wrong {
         Wrong::Unreadable(Code::Utc) | Wrong::Unended | Wrong::TooDeep => None,
-        Wrong::Unreadable(code) => Some(unread_len(bytes, code)),
+        Wrong::Unreadable(code) => Some(unread_len(profile, bytes, code)),
         Wrong::Stray(..) => Some(1),
-        Wrong::NoTag | Wrong::Calls | Wrong::Loads | Wrong::InText => Some(token_len(bytes)),
+        Wrong::NoTag | Wrong::Calls | Wrong::Loads | Wrong::InText => Some(token_len(
+            profile, bytes,
+        )),
     }
 }
 
@@ -100,7 +102,7 @@ fn blank(text: &mut Vec<u8>, span: Span)
 }
 
 /// Makes a text read on after a fault: its token is spaces then, and a test that is none is one. Says whether that is so.
-pub fn pass_over(text: &mut Vec<u8>, fault: &FaultIn) -> bool {
+pub fn pass_over(text: &mut Vec<u8>, profile: Profile, fault: &FaultIn) -> bool {
     let test = fault.at.saturating_add(1);
     if matches!(fault.wrong, Wrong::Unreadable(Code::Iqc)) && test < text.len() {
         text[test] = b'E';
@@ -110,7 +112,7 @@ pub fn pass_over(text: &mut Vec<u8>, fault: &FaultIn) -> bool {
         from: fault.at,
         to: fault.inside.to,
     };
-    let Some(len) = passed_len(part(text, rest), fault.wrong) else {
+    let Some(len) = passed_len(profile, part(text, rest), fault.wrong) else {
         return false;
     };
     let to = fault.at.saturating_add(len).min(fault.inside.to);

@@ -1,4 +1,5 @@
 //! Remarks on commands.
+use crate::forms::Form;
 use teco_check::Wrong;
 use teco_scan::Span;
 
@@ -22,6 +23,10 @@ pub enum Hint {
     Caret,
     /// `nO` of TECO-11, which a run refuses by ARG.
     NumberBeforeJump,
+    /// A form of a command that this TECO leaves out.
+    LeftOut(Form),
+    /// A search text that can't be read, by which a run ends with ICE.
+    WrongSearchText,
     /// A text is empty, and its ESC is the first of the pair that ends the string.
     EmptyText,
     /// The register of this name is called, and nothing puts a text into it.

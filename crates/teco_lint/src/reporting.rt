@@ -9,7 +9,7 @@ use std::alloc::Global;
 use std::fmt::Write;
 use teco_core::{ESC, NoMemory};
 use teco_messages::Spot;
-use teco_scan::Span;
+use teco_scan::{Span, Text};
 
 /// A place of a text that is gone over from left to right, with its line and its column.
 #[derive(Clone, Copy)]
@@ -86,7 +86,7 @@ pub fn report_part(
     name: &str,
     source: &[u8],
     places: Option<&[usize]>,
-    commands: &[u8],
+    commands: Text<'_>,
     part: Span,
     remarks: &[Remark],
 ) -> Result<(), NoMemory> {
@@ -126,7 +126,7 @@ pub fn report(
     name: &str,
     source: &[u8],
     places: Option<&[usize]>,
-    commands: &[u8],
+    commands: Text<'_>,
     remarks: &[Remark],
 ) -> Result<String, NoMemory> {
     let mut out = String::new(alloc);

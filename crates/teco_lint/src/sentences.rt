@@ -1,5 +1,5 @@
 //! Faults and hints in sentences.
-use crate::left_out::row_of;
+use crate::left_out::{LeftOut, row_of, row_of_form};
 use crate::naming::{bare_name_of, modifiers_len, name_of};
 use crate::passing::part;
 use crate::remarks::{FaultIn, Hint, Remark, What};
@@ -8,7 +8,7 @@ use std::fmt::Write;
 use teco_check::{MOST_TEXTS, Wrong};
 use teco_core::{BLOCK_LIMIT, Code, ESC, NoMemory, Profile};
 use teco_messages::{Spot, spell_token, token};
-use teco_scan::{Found, Item, TokenKind, token_at};
+use teco_scan::{Found, Item, Text, TokenKind, token_at};
 
 /// Shows a text, the spelling of bytes, and another text.
 fn show_around(out: &mut String, before: &str, bytes: &[u8], after: &str) -> Result<(), NoMemory> {
@@ -39,17 +39,17 @@ fn show_modifiers(out: &mut String, bytes: &[u8], modifiers: usize) -> Result<()
 }
 
 /// Whether a command could be read but for its modifiers.
-fn is_known(bytes: &[u8]) -> bool {
+fn is_known(profile: Profile, bytes: &[u8]) -> bool {
     !matches!(
-        token_at(Profile::Named, bytes, 0),
+        token_at(profile, bytes, 0),
         Found::Fault(Code::Ill) | Found::End
     )
 }
 
 /// Says why no command is there.
-fn show_no_command(out: &mut String, bytes: &[u8]) -> Result<(), NoMemory> {
+fn show_no_command(out: &mut String, profile: Profile, bytes: &[u8]) -> Result<(), NoMemory> {
     let modifiers = modifiers_len(bytes);
-    if modifiers > 0 && is_known(&bytes[modifiers..]) {
+    if modifiers > 0 && is_known(profile, &bytes[modifiers..]) {
         return show_modifiers(out, bytes, modifiers);
     }
     show_around(out, "no command begins with ", bare_name_of(bytes), "")
@@ -78,19 +78,37 @@ fn show_no_end(out: &mut String, bytes: &[u8]) -> Result<(), NoMemory> {
     }
 }
 
+/// Says what TECO-11 does here, and what to write in its place.
+fn show_left_out(out: &mut String, row: &LeftOut) -> Result<(), NoMemory> {
+    let written = row.written;
+    let does = row.does;
+    let instead = row.instead;
+    write!(
+        out,
+        "{written} of TECO-11 is left out: it {does}; here: {instead}"
+    )
+}
+
+/// What comes after `"`.
+fn tests_of(profile: Profile) -> &'static str {
+    match profile {
+        Profile::Named => "after \" comes a letter of E F U N G L S T A D R V W",
+        Profile::Wide => "after \" comes a letter of E F U N G L S T A D R V W, or = < >",
+    }
+}
+
 /// Says why no token can be read.
-fn show_unreadable(out: &mut String, bytes: &[u8], code: Code) -> Result<(), NoMemory> {
+fn show_unreadable(
+    out: &mut String,
+    profile: Profile,
+    bytes: &[u8],
+    code: Code,
+) -> Result<(), NoMemory> {
     if let Code::Utc = code {
         return show_no_end(out, bytes);
     }
-    if let Some((row, _)) = row_of(bytes) {
-        let written = row.written;
-        let does = row.does;
-        let instead = row.instead;
-        return write!(
-            out,
-            "{written} of TECO-11 is left out: it {does}; here: {instead}"
-        );
+    if let Some((row, _)) = row_of(profile, bytes) {
+        return show_left_out(out, row);
     }
     match code {
         Code::Iqn => show_around(
@@ -99,8 +117,8 @@ fn show_unreadable(out: &mut String, bytes: &[u8], code: Code) -> Result<(), NoM
             name_of(bytes),
             " comes a register, A to Z or 0 to 9",
         ),
-        Code::Iqc => out.push_str("after \" comes a letter of E F U N G L S T A D R V W"),
-        _ => show_no_command(out, bytes),
+        Code::Iqc => out.push_str(tests_of(profile)),
+        _ => show_no_command(out, profile, bytes),
     }
 }
 
@@ -133,8 +151,8 @@ fn show_stray(
 }
 
 /// The name of the tag that a jump goes to, where the jump begins the bytes.
-fn tag_name(bytes: &[u8]) -> &[u8] {
-    match token_at(Profile::Named, bytes, 0) {
+fn tag_name(profile: Profile, bytes: &[u8]) -> &[u8] {
+    match token_at(profile, bytes, 0) {
         Found::Token(token) => match token.kind {
             TokenKind::Item(Item::Text(_, span)) => part(bytes, span),
             _ => &[],
@@ -144,9 +162,9 @@ fn tag_name(bytes: &[u8]) -> &[u8] {
 }
 
 /// What opens a block, if one is open.
-fn opener(text: &[u8], place: Option<usize>) -> Option<&[u8]> {
+fn opener(profile: Profile, text: &[u8], place: Option<usize>) -> Option<&[u8]> {
     match place {
-        Some(at) => Some(token(text, at, 1)),
+        Some(at) => Some(token(profile, text, at, 1)),
         None => None,
     }
 }
@@ -174,31 +192,32 @@ pub fn opening_of(remark: &Remark) -> Option<usize> {
 }
 
 /// Whether a remark tells of a conditional that isn't closed.
-pub fn is_open_conditional(commands: &[u8], remark: &Remark) -> bool {
+pub fn is_open_conditional(commands: Text<'_>, remark: &Remark) -> bool {
     let What::Fault(fault) = remark.what else {
         return false;
     };
-    let text = part(commands, fault.inside);
+    let text = part(commands.bytes, fault.inside);
     let opening = match fault.wrong {
         Wrong::Unended => Some(fault.at.saturating_sub(fault.inside.from)),
         Wrong::Stray(_, opening) => opening,
         _ => None,
     };
-    matches!(opener(text, opening), Some([b'"', ..]))
+    matches!(opener(commands.profile, text, opening), Some([b'"', ..]))
 }
 
 fn show_wrong(
     out: &mut String,
+    profile: Profile,
     text: &[u8],
     at: usize,
     wrong: Wrong,
     opening: Option<Spot>,
 ) -> Result<(), NoMemory> {
     let here = &text[at.min(text.len())..];
-    let token = token(text, at, 1);
+    let token = token(profile, text, at, 1);
     match wrong {
-        Wrong::Unreadable(code) => show_unreadable(out, here, code),
-        Wrong::Stray(_, place) => show_stray(out, here, opener(text, place), opening),
+        Wrong::Unreadable(code) => show_unreadable(out, profile, here, code),
+        Wrong::Stray(_, place) => show_stray(out, here, opener(profile, text, place), opening),
         Wrong::Unended => match here {
             [b'<', ..] => out.push_str("< has no >"),
             _ => show_around(out, "", token, " has no '"),
@@ -207,7 +226,7 @@ fn show_wrong(
         Wrong::NoTag => show_around(
             out,
             "no tag !",
-            tag_name(here),
+            tag_name(profile, here),
             "! is in this list or one around it",
         ),
         Wrong::Calls => show_around(out, "", token, " runs a text that is not looked into"),
@@ -227,7 +246,7 @@ fn show_wrong(
 /// Shows a fault: its code, and what is wrong.
 fn show_fault(
     out: &mut String,
-    commands: &[u8],
+    commands: Text<'_>,
     fault: &FaultIn,
     opening: Option<Spot>,
 ) -> Result<(), NoMemory> {
@@ -237,7 +256,8 @@ fn show_fault(
     };
     begun?;
     let at = fault.at.saturating_sub(fault.inside.from);
-    show_wrong(out, part(commands, fault.inside), at, fault.wrong, opening)
+    let text = part(commands.bytes, fault.inside);
+    show_wrong(out, commands.profile, text, at, fault.wrong, opening)
 }
 
 /// Shows a hint.
@@ -246,6 +266,8 @@ fn show_hint(out: &mut String, hint: Hint) -> Result<(), NoMemory> {
         Hint::NeverSet(name) => {
             return write!(out, "{name} is called, and nothing puts a text into it");
         }
+        Hint::LeftOut(form) => return show_left_out(out, row_of_form(form)),
+        Hint::WrongSearchText => "no search reads this text, which is ICE",
         Hint::AfterExit => "EX ends the run before this",
         Hint::LeavesNothing => "; is in no iteration of this text, which is SNI",
         Hint::Caret => "a caret in a search text is a caret, and no control byte",
@@ -264,7 +286,7 @@ fn show_hint(out: &mut String, hint: Hint) -> Result<(), NoMemory> {
 /// Shows a remark on commands; `opening` is where the block is opened that it belongs to.
 pub fn show_remark(
     out: &mut String,
-    commands: &[u8],
+    commands: Text<'_>,
     remark: &Remark,
     opening: Option<Spot>,
 ) -> Result<(), NoMemory> {

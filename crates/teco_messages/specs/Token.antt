@@ -2,7 +2,7 @@
 use Rattle.std.specs.Prelude.{ℕ, ◌-◌, Bool, ◌==◌, ◌||◌, not, List, [], length, take, drop, min, max}
 use Rattle.std.specs.List.{prefix_len}
 use Rattle.teco_core.specs.Ascii.{is_filler}
-use Rattle.teco_core.specs.declared.profile.Profile.TheVariants.{Named}
+use Rattle.teco_core.specs.declared.profile.Profile.{Profile}
 use Rattle.teco_scan.specs.Scan.{Scanned, found, ended, fault, scan, after_fillers}
 use Rattle.teco_core.specs.declared.ascii.TheConstants.{ESC}
 
@@ -22,6 +22,6 @@ token_of (found t rest) bytes most = before_rest (after_fillers bytes) rest
 token_of ended bytes most = []
 token_of (fault c) bytes most = take (word_len bytes most) bytes
 
--- the token at a place of a text, as it is spelled; where none begins, at most so many bytes
-abbrev pub token_in : List ℕ → ℕ → ℕ → List ℕ
-token_in text at most = token_of (scan Named (drop at text)) (drop at text) most
+-- the token at a place of a text, as it is spelled in a profile; where none begins, at most so many bytes
+abbrev pub token_in : Profile → List ℕ → ℕ → ℕ → List ℕ
+token_in p text at most = token_of (scan p (drop at text)) (drop at text) most

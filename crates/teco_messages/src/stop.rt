@@ -1,5 +1,4 @@
 //! Why a run stopped.
-ghost use Rattle.teco_core.specs.declared.profile.Profile.TheVariants.{Named};
 ghost use Rattle.std.specs.Prelude.{◌≡◌, ◌++◌, List, ℕ, Option, Some, None, OnOk, codes, drop, length, option_copied};
 ghost use Rattle.std.specs.String.{string_bytes};
 ghost use Rattle.teco_scan.specs.Scan.{scan};
@@ -33,13 +32,13 @@ fn opens(item: Item) -> bool
 }
 
 /// Whether a step that opens or pushes comes at a place. Past its limit it ends by PDO itself.
-fn is_opening(text: &[u8], at: usize) -> bool
-    ensures { result ≡ is_opening (scan Named (drop at text.now)) }
+fn is_opening(profile: Profile, text: &[u8], at: usize) -> bool
+    ensures { result ≡ is_opening (scan profile (drop at text.now)) }
 {
     if at > text.len() {
         return false;
     }
-    match token_at(Profile::Named, text, at) {
+    match token_at(profile, text, at) {
         Found::Token(token) => match token.kind {
             TokenKind::Item(item) => opens(item),
             _ => false,
@@ -49,22 +48,22 @@ fn is_opening(text: &[u8], at: usize) -> bool
 }
 
 /// Whether a run that ended by this code at a place of a text has met a fault of the text that has that code.
-fn meets(text: &[u8], at: usize, fault: Code, code: Code) -> bool
-    ensures { result ≡ meets text.now at fault code }
+fn meets(profile: Profile, text: &[u8], at: usize, fault: Code, code: Code) -> bool
+    ensures { result ≡ meets profile text.now at fault code }
 {
     match code {
         Code::Tag => true,
-        Code::Pdo => fault.number() == Code::Pdo.number() && !is_opening(text, at),
+        Code::Pdo => fault.number() == Code::Pdo.number() && !is_opening(profile, text, at),
         _ => fault.number() == code.number(),
     }
 }
 
 /// Shows the token at a place of a text; where none is there, what is.
-fn show_token_at(out: &mut String, text: &[u8], at: usize) -> Result<(), NoMemory>
+fn show_token_at(out: &mut String, profile: Profile, text: &[u8], at: usize) -> Result<(), NoMemory>
     ensures { OnOk result (string_bytes out.new
-        ≡ string_bytes out.old ++ token_shown (token_in text.now at MOST_FAULTY)) }
+        ≡ string_bytes out.old ++ token_shown (token_in profile text.now at MOST_FAULTY)) }
 {
-    spell_token(out, token(text, at, MOST_FAULTY))
+    spell_token(out, token(profile, text, at, MOST_FAULTY))
 }
 
 /// Shows that a fault comes at the place which is shown next, and its code, where it isn't the one that is told.
@@ -79,11 +78,16 @@ fn show_fault_before(out: &mut String, fault: Code, code: Code) -> Result<(), No
 }
 
 /// Shows that the text ends inside a block which opens at this place.
-fn show_open_block(out: &mut String, text: &[u8], opened: usize) -> Result<(), NoMemory>
-    ensures { OnOk result (string_bytes out.new ≡ string_bytes out.old ++ open_block_shown text.now opened) }
+fn show_open_block(
+    out: &mut String,
+    profile: Profile,
+    text: &[u8],
+    opened: usize,
+) -> Result<(), NoMemory>
+    ensures { OnOk result (string_bytes out.new ≡ string_bytes out.old ++ open_block_shown profile text.now opened) }
 {
     out.push_str(", the text ends inside ")?;
-    show_token_at(out, text, opened)?;
+    show_token_at(out, profile, text, opened)?;
     out.push_str(" at ")?;
     show_spot(out, text, opened)
 }
@@ -91,38 +95,40 @@ fn show_open_block(out: &mut String, text: &[u8], opened: usize) -> Result<(), N
 /// Shows a fault at a place of a text.
 fn show_fault_here(
     out: &mut String,
+    profile: Profile,
     text: &[u8],
     at: usize,
     fault: Code,
     code: Code,
 ) -> Result<(), NoMemory>
-    ensures { OnOk result (string_bytes out.new ≡ string_bytes out.old ++ fault_here_shown text.now at fault code) }
+    ensures { OnOk result (string_bytes out.new ≡ string_bytes out.old ++ fault_here_shown profile text.now at fault code) }
 {
     show_fault_before(out, fault, code)?;
     show_spot(out, text, at)?;
     out.push_str(", ")?;
-    show_token_at(out, text, at)
+    show_token_at(out, profile, text, at)
 }
 
 /// Shows the place of a fault that was met, unless it is the one where the run stood; or, where the text ends inside a block, the
 /// place of what opens the block.
 fn show_fault_at(
     out: &mut String,
+    profile: Profile,
     text: &[u8],
     at: usize,
     fault: ListFault,
     code: Code,
 ) -> Result<(), NoMemory>
     ensures { OnOk result (string_bytes out.new
-        ≡ string_bytes out.old ++ fault_at_shown text.now at fault code fault.opened) }
+        ≡ string_bytes out.old ++ fault_at_shown profile text.now at fault code fault.opened) }
 {
     match fault.opened {
-        Some(opened) => show_open_block(out, text, opened),
+        Some(opened) => show_open_block(out, profile, text, opened),
         None => {
             if fault.at == at {
                 return Ok(());
             }
-            show_fault_here(out, text, fault.at, fault.code, code)
+            show_fault_here(out, profile, text, fault.at, fault.code, code)
         }
     }
 }
@@ -130,18 +136,19 @@ fn show_fault_at(
 /// Shows the fault that a run has met which ended by this code at a place of a text.
 fn show_fault(
     out: &mut String,
+    profile: Profile,
     text: &[u8],
     at: usize,
     fault: Option<ListFault>,
     code: Code,
 ) -> Result<(), NoMemory>
-    ensures { OnOk result (string_bytes out.new ≡ string_bytes out.old ++ fault_shown text.now at fault code) }
+    ensures { OnOk result (string_bytes out.new ≡ string_bytes out.old ++ fault_shown profile text.now at fault code) }
 {
     match fault {
         None => Ok(()),
         Some(fault) => {
-            if meets(text, at, fault.code, code) {
-                return show_fault_at(out, text, at, fault, code);
+            if meets(profile, text, at, fault.code, code) {
+                return show_fault_at(out, profile, text, at, fault, code);
             }
             Ok(())
         }
@@ -179,20 +186,21 @@ fn show_calls(
 /// Shows the steps that were done, where the run last stood, the token there, the fault that it met, and the open calls.
 fn show_standing(
     out: &mut String,
+    profile: Profile,
     place: &Place,
     registers: &Registers,
     string: &[u8],
     code: Code,
 ) -> Result<(), NoMemory>
     ensures { OnOk result (string_bytes out.new
-        ≡ string_bytes out.old ++ stand_shown (Some place.now) registers.now string.now code) }
+        ≡ string_bytes out.old ++ stand_shown profile (Some place.now) registers.now string.now code) }
 {
     let steps = place.steps;
     write!(out, ", step {steps}, ")?;
     show_place(out, place, registers, string)?;
     let text = text_under(place, 0, registers, string);
-    show_token(out, token(text, place.at, MOST_FAULTY))?;
-    show_fault(out, text, place.at, place.fault, code)?;
+    show_token(out, token(profile, text, place.at, MOST_FAULTY))?;
+    show_fault(out, profile, text, place.at, place.fault, code)?;
     show_calls(out, place, registers, string)
 }
 
@@ -212,6 +220,7 @@ fn show_end(out: &mut String, code: Code, limits: Option<Limits>) -> Result<(), 
 /// opens the block in which the text ends, and the open calls with the latest first.
 pub fn show_stop(
     out: &mut String,
+    profile: Profile,
     place: Option<&Place>,
     registers: &Registers,
     string: &[u8],
@@ -219,12 +228,12 @@ pub fn show_stop(
     limits: Option<Limits>,
 ) -> Result<(), NoMemory>
     ensures { OnOk result (string_bytes out.new ≡ string_bytes out.old
-        ++ stop_shown (option_copied place.entry) registers.now string.now code limits) }
+        ++ stop_shown profile (option_copied place.entry) registers.now string.now code limits) }
 {
     match place {
         None => show_end(out, code, limits),
         Some(place) => {
-            show_standing(out, place, registers, string, code)?;
+            show_standing(out, profile, place, registers, string, code)?;
             show_end(out, code, limits)
         }
     }

@@ -24,13 +24,13 @@ fn word_len(bytes: &[u8], most: usize) -> usize
 }
 
 /// The token at a place, as it is spelled; where none is there, at most `most` bytes.
-pub fn token(text: &[u8], at: usize, most: usize) -> &[u8]
-    ensures { result.now ≡ token_in text.now at most }
+pub fn token(profile: Profile, text: &[u8], at: usize, most: usize) -> &[u8]
+    ensures { result.now ≡ token_in profile text.now at most }
 {
     if at > text.len() {
         return &[];
     }
-    match token_at(Profile::Named, text, at) {
+    match token_at(profile, text, at) {
         Found::Token(token) => &text[token.span.from..token.span.to],
         Found::End => &[],
         Found::Fault(_) => {

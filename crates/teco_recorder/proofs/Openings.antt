@@ -1,6 +1,8 @@
 -- How a session's file is opened: it is there, it is read, and then it is begun, gone on with or left.
 use Rattle.std.proofs.Common.{◌≡◌, ◌≢◌, ◌⊎◌, ◌++◌, ℕ, List, [], Some, None, length, take, refl, sym, ap, ◌∙◌, subst, append-nil, inl, inr}
 use Rattle.std.proofs.Math.Seq.{take-append_seam}
+use Rattle.teco_core.specs.declared.profile.Profile.{Profile}
+use Rattle.teco_core.specs.declared.profile.Profile.TheVariants.{Named, Wide}
 use Rattle.teco_fs.specs.Disk.{Creates, CutsTo, Files, IsThere, Same, SameBut}
 use Rattle.teco_fs.specs.Reading.{IsInput}
 use Rattle.teco_fs.specs.State.{DiskState, FilesChange, FilesPass}
@@ -11,8 +13,8 @@ use Rattle.teco_journal.specs.declared.session_file.SessionFault.TheVariants.{He
 use Rattle.teco_journal.specs.Events.{Event}
 use Rattle.teco_journal.specs.Files.{FileFails}
 use Rattle.teco_journal.specs.HeadFaults.{HeadFails}
-use Rattle.teco_journal.specs.Heads.{Beginning, file_of, head_of, whole_head}
-use Rattle.teco_journal.specs.Lines.{written}
+use Rattle.teco_journal.specs.Heads.{Beginning, begun, file_of, first_check, head_of, start_lines, version, whole_head}
+use Rattle.teco_journal.specs.Lines.{line_of, written}
 use Rattle.teco_recorder.specs.Opening.{Begins, CutsTorn, GoesOn, HasLines, KeepsOrBegins, StaysClosed, TellsNothing}
 use Rattle.teco_recorder.specs.Recording.{HasIfThere, IsBegun}
 
@@ -178,9 +180,14 @@ unopened_closed beginning name old now same moments streams = record {
 }
 
 -- A file with lines is not empty, and so it was there before.
+version_there : (p : Profile) (start last lines rest : List ℕ) → [] ≡ (((version p ++ start) ++ last) ++ lines) ++ rest → ⊥
+version_there Named start last lines rest is = cc
+version_there Wide start last lines rest is = cc
+
 lines_there : (beginning : Beginning) (events : List Event) (rest : List ℕ) → [] ≡ file_of beginning events ++ rest → ⊥
 unfolding head_of
-lines_there beginning events rest is = cc
+lines_there beginning events rest is =
+    version_there beginning.profile (start_lines beginning) (line_of (head_of beginning) begun) (written (first_check beginning) events) rest is
 
 had_before : (name bytes : List ℕ) (before mid : Files) → IsThere name before mid → mid name ≡ Some bytes → ([] ≡ bytes → ⊥)
     → (before name ≡ Some bytes) × Same before mid

@@ -15,12 +15,13 @@ use Rattle.teco_journal.specs.Lines.{check_after}
 use Rattle.teco_journal.specs.Reading.{EndsAs}
 use Rattle.teco_recorder.specs.declared.opening.Asked.{Asked}
 use Rattle.teco_recorder.specs.Recording.{KeptFile}
+use Rattle.teco_replay.specs.Begun.{begun_history}
 use Rattle.teco_replay.specs.Told.{after_event, after_events}
-use Rattle.teco_session.specs.History.{History, new_paged_history, present}
+use Rattle.teco_session.specs.History.{History, present}
 
 -- the history that a session begins with, and the one that its events lead to
 abbrev pub first_history : Beginning → History
-first_history beginning = new_paged_history beginning.lines beginning.depth beginning.input
+first_history beginning = begun_history beginning.profile beginning.lines beginning.depth beginning.input
 
 abbrev pub is_run_event : Event → Bool
 is_run_event (ran steps text) = true
@@ -44,8 +45,9 @@ abbrev pub IsExpected : Beginning → List Event → List ℕ → Type 0
 IsExpected beginning events input =
     (input ≡ beginning.input) ⊎ (last_output (first_history beginning) events None ≡ Some input)
 
--- A beginning is what is asked for: so many lines of a page and this depth, if any are.
+-- A beginning is what is asked for: this profile, so many lines of a page and this depth, if any are.
 pub record IsAsked (asked : Asked) (beginning : Beginning) : Type 0 where
+  pub profile : ForSome asked.profile (λ profile. beginning.profile ≡ profile)
   pub lines : ForSome asked.lines (λ lines. beginning.lines ≡ lines)
   pub depth : ForSome asked.depth (λ depth. beginning.depth ≡ Some depth)
 

@@ -19,7 +19,7 @@ pub enum OpenFault {
     Head,
     /// This line after its head, counted from 1, is not as it was written.
     Changed(usize),
-    /// It was begun with other lines of a page, or another depth.
+    /// It was begun in another profile, or with other lines of a page, or another depth.
     Settings,
     /// A string does not run again as it ran.
     Replay(ReplayFault),

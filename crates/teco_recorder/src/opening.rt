@@ -17,14 +17,16 @@ use crate::fault::{OpenFault, no_file};
 use crate::open_file::OpenFile;
 use crate::outputs::session_again;
 use std::alloc::Global;
-use teco_core::DEPTH_LIMIT;
+use teco_core::{DEPTH_LIMIT, Profile};
 use teco_fs::{Disk, read_whole};
 use teco_journal::{Ending, HeadFault, SessionFault, SessionFile, Start, new_head, read_session};
+use teco_replay::begun_session;
 use teco_session::Session;
 
 /// What a line asks of a session that goes on: it has to be what the file was begun with.
 #[derive(Clone, Copy)]
 pub struct Asked {
+    pub profile: Option<Profile>,
     pub lines: Option<usize>,
     pub depth: Option<usize>,
 }
@@ -64,7 +66,7 @@ fn begin<D: Disk>(
     let mut file = file;
     let head = new_head(alloc, start)?;
     let input = Vec::from_slice(alloc, start.input)?;
-    let session = Session::with_pages(input, start.lines, start.depth)?;
+    let session = begun_session(start.profile, input, start.lines, start.depth)?;
     match file.begin(disk, &head) {
         Ok(()) => Ok(Opened {
             session,
@@ -83,11 +85,23 @@ fn is_one_asked(number: Option<usize>, asked: Option<usize>) -> bool
     asked.is_none() || number == asked
 }
 
+/// Whether a profile is the one that is asked for, if one is.
+fn is_profile_asked(profile: Profile, asked: Option<Profile>) -> bool
+    ensures { result ≡ true → ForSome asked (λ asked. profile ≡ asked) }
+{
+    match asked {
+        Some(asked) => profile == asked,
+        None => true,
+    }
+}
+
 /// Whether a session that began so is what is asked for.
 fn is_asked(start: Start<'_>, asked: Asked) -> bool
     ensures { result ≡ true → IsAsked asked (beginning_in start.entry) }
 {
-    is_one_asked(Some(start.lines), asked.lines) && is_one_asked(start.depth, asked.depth)
+    is_profile_asked(start.profile, asked.profile)
+        && is_one_asked(Some(start.lines), asked.lines)
+        && is_one_asked(start.depth, asked.depth)
 }
 
 /// Why the file is not gone on with by what it says, if it isn't.

@@ -13,7 +13,7 @@ use crate::fault::OpenFault;
 use std::alloc::Global;
 use std::slice;
 use teco_journal::{Record, Start};
-use teco_replay::{Quiet, ReplayFault, replay};
+use teco_replay::{Quiet, ReplayFault, begun_session, replay};
 use teco_session::Session;
 use teco_store::Desk;
 
@@ -62,7 +62,7 @@ pub fn session_again(
     ensures fault { IfErr result (λ fault. IsOfFile fault → ⊥) }
 {
     let first = Vec::from_slice(alloc, start.input)?;
-    let mut session = Session::with_pages(first, start.lines, start.depth)?;
+    let mut session = begun_session(start.profile, first, start.lines, start.depth)?;
     let is_last = is_last_again(&mut session, records, input)?;
     if is_last || input == start.input {
         Ok(session)

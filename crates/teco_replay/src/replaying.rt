@@ -1,14 +1,16 @@
 //! A session again, from its first state and its records.
 ghost use Rattle.std.specs.Prelude.{◌≡◌, ℕ, List, ◌≤◌, vec_len, IfOk, IsErrOf, OnOk, Some};
 ghost use Rattle.std.specs.Option.{ForSome};
-ghost use Rattle.teco_session.specs.History.{History, new_paged_history};
+ghost use Rattle.teco_session.specs.History.{History};
 ghost use Rattle.teco_session.specs.Kept.{history_of};
 ghost use Rattle.teco_journal.specs.Events.{event_of, events_of, ran};
+ghost use Rattle.teco_replay.specs.Begun.{begun_history};
 ghost use Rattle.teco_replay.specs.Told.{AllHappen, Deed, Happens, Lived, after_event, after_events, journal_of};
 ghost use Rattle.teco_replay.specs.Verdict.{fault_of};
 
+use crate::beginning::begun_session;
 use crate::laws::replay_laws;
-use teco_core::{Code, DEPTH_LIMIT, FILE_LIMIT};
+use teco_core::{Code, DEPTH_LIMIT, FILE_LIMIT, Profile};
 use teco_exec::meaning_laws;
 use teco_io::Terminal;
 use teco_journal::Record;
@@ -111,10 +113,11 @@ pub fn replay<T: Terminal>(
     Ok(())
 }
 
-/// A session again: over this input, with pages of so many lines and this depth, after all that its records tell.
+/// A session again: in this profile, over this input, with pages of so many lines and this depth, after all that its records tell.
 ///
 /// The strings are run again, each under a limit of just the steps that it took. So each ends where it ended, however it ended then.
 pub fn resume<T: Terminal>(
+    profile: Profile,
     input: Vec<u8>,
     lines: usize,
     depth: Option<usize>,
@@ -125,19 +128,19 @@ pub fn resume<T: Terminal>(
     requires depth { ForSome depth (λ depth. depth ≤ DEPTH_LIMIT) }
     // It has the history that the records tell.
     ensures told { IfOk result (λ session. history_of session
-        ≡ after_events (new_paged_history lines depth input.items) (events_of records.now)) }
+        ≡ after_events (begun_history profile lines depth input.items) (events_of records.now)) }
     // The records of what was done to a session give that session's history: its first state, its strings with their steps and states,
     // its cursor and its depth.
     ensures again { (deeds : List Deed) (lived : History)
-        → Lived (new_paged_history lines depth input.items) deeds lived → events_of records.now ≡ journal_of deeds
+        → Lived (begun_history profile lines depth input.items) deeds lived → events_of records.now ≡ journal_of deeds
         → IfOk result (λ session. history_of session ≡ lived) }
     // They are refused for want of memory or because the terminal failed, and for nothing else.
     ensures only { (deeds : List Deed) (lived : History)
-        → Lived (new_paged_history lines depth input.items) deeds lived → events_of records.now ≡ journal_of deeds
+        → Lived (begun_history profile lines depth input.items) deeds lived → events_of records.now ≡ journal_of deeds
         → IsErrOf result ReplayFault.Wrong → ⊥ }
 {
     replay_laws();
-    let Ok(mut session) = Session::with_pages(input, lines, depth) else {
+    let Ok(mut session) = begun_session(profile, input, lines, depth) else {
         return Err(ReplayFault::Memory);
     };
     match replay(&mut session, records, term) {

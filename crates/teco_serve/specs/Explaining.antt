@@ -9,6 +9,8 @@ use Rattle.std.specs.declared.string.String.{String}
 use Rattle.teco_core.specs.Ascii.{is_filler}
 use Rattle.teco_core.specs.declared.code.Code.{Code}
 use Rattle.teco_core.specs.declared.limits.TheConstants.{TEXT_LIMIT}
+use Rattle.teco_core.specs.declared.profile.Profile.{Profile}
+use Rattle.teco_core.specs.declared.profile.Profile.TheVariants.{Named, Wide}
 use Rattle.teco_exec.specs.declared.place.Place.{Place}
 use Rattle.teco_cli.specs.declared.line.Line.{Line}
 use Rattle.teco_fs.specs.Refusing.{Tells}
@@ -57,7 +59,7 @@ place_had (Err lacking) = None
 abbrev pub stop_line : ℕ → Bounds → List ℕ → Answered → KeptSession → Option Code → List ℕ
 stop_line n bounds text answered session None = []
 stop_line n bounds text answered session (Some code) =
-    of_string n ++ stop_shown (place_had answered.place) (state_of session.editor).registers text code
+    of_string n ++ stop_shown (state_of session.editor).profile (place_had answered.place) (state_of session.editor).registers text code
     (Some (limits_after bounds (outcome_of answered.answer))) ++ codes "\n"
 
 -- how many steps it took
@@ -100,11 +102,17 @@ next_number t = min (t.texts + 1) (2 ^ 64 - 1)
 abbrev pub beginning_of : Line → Telling
 beginning_of line = record { counts = line.prompt; texts = 0; place = 0 }
 
--- What is told of a text that was run: why it stopped; how many steps it took, if that is wanted; and an exit that
--- came first.
+-- with the first text, which language the commands are in, if that is the wide one
+abbrev pub profile_line : ℕ → Profile → List ℕ
+profile_line n Named = []
+profile_line n Wide = if n == 1 then codes "the commands are in the wide language\n" else []
+
+-- What is told of a text that was run: why it stopped; the wide language; how many steps it took, if that is wanted; and an exit
+-- that came first.
 abbrev pub run_lines : Telling → Bounds → List ℕ → Answered → KeptSession → List ℕ
 run_lines t bounds text answered session =
     stop_line (next_number t) bounds text answered session (answer_code answered.answer)
+    ++ profile_line (next_number t) (state_of session.editor).profile
     ++ steps_told (next_number t) t.counts (outcome_of answered.answer)
     ++ exit_line t.place session (outcome_of answered.answer)
 
@@ -123,6 +131,7 @@ history_line n true session =
 -- What is told of a text that asked for undos, redos or a rewind.
 abbrev pub move_lines : Telling → Option Code → KeptSession → List ℕ
 move_lines t code session = refusal_line (next_number t) code
+    ++ profile_line (next_number t) (state_of session.editor).profile
     ++ history_line (next_number t) t.counts session
 
 -- what bytes come after that were not run

@@ -4,7 +4,7 @@ ghost use Rattle.std.specs.List.{list_all};
 ghost use Rattle.std.specs.String.{string_bytes};
 ghost use Rattle.teco_core.specs.Ascii.{is_filler};
 ghost use Rattle.teco_serve.specs.Ending.{output_of};
-ghost use Rattle.teco_serve.specs.Explaining.{after_what, anew, beginning_of, counted, end_line, exit_line, exits_first, history_line, is_bare_exit, is_turn, left_line, limits_after, move_lines, next_number, place_had, refusal_line, run_lines, seconds_after, steps_line, steps_told, stop_line};
+ghost use Rattle.teco_serve.specs.Explaining.{after_what, anew, beginning_of, counted, end_line, exit_line, exits_first, history_line, is_bare_exit, is_turn, left_line, limits_after, move_lines, next_number, place_had, profile_line, refusal_line, run_lines, seconds_after, steps_line, steps_told, stop_line};
 ghost use Rattle.teco_session.specs.Answers.{answer_code, outcome_of};
 
 use crate::alarm::Bounds;
@@ -13,7 +13,7 @@ use crate::served::Served;
 use std::alloc::Global;
 use std::fmt::Write;
 use teco_cli::Line;
-use teco_core::{Code, NoMemory, TEXT_LIMIT, is_filler};
+use teco_core::{Code, NoMemory, Profile, TEXT_LIMIT, is_filler};
 use teco_exec::Outcome;
 use teco_messages::{Limits, show_code, show_stop};
 use teco_session::{Answer, Answered, Changes, Session};
@@ -127,8 +127,9 @@ fn tell_stop(
     };
     let limits = limits_after(bounds, outcome_of(answered.answer));
     let registers = session.editor().registers();
+    let profile = session.editor().profile();
     write!(out, "string {n}")?;
-    show_stop(out, place, registers, text, code, Some(limits))?;
+    show_stop(out, profile, place, registers, text, code, Some(limits))?;
     out.push_str("\n")
 }
 
@@ -136,6 +137,16 @@ fn tell_steps_taken(out: &mut String, n: u64, steps: u64) -> Result<(), NoMemory
     ensures { OnOk result (string_bytes out.new ≡ string_bytes out.old ++ steps_line n steps) }
 {
     writeln!(out, "string {n}: steps taken {steps}")
+}
+
+/// Tells with the first text which language the commands are in, if that is the wide one.
+fn tell_profile(out: &mut String, n: u64, profile: Profile) -> Result<(), NoMemory>
+    ensures { OnOk result (string_bytes out.new ≡ string_bytes out.old ++ profile_line n profile) }
+{
+    match profile {
+        Profile::Wide if n == 1 => out.push_str("the commands are in the wide language\n"),
+        _ => Ok(()),
+    }
 }
 
 /// Tells how many steps the text of number `n` took, if that is wanted and it was begun.
@@ -221,6 +232,7 @@ pub fn lines_of_run(
     let ended = outcome_of(answered.answer);
     let mut lines = String::new(alloc);
     tell_stop(&mut lines, n, bounds, text, answered, session)?;
+    tell_profile(&mut lines, n, session.editor().profile())?;
     tell_steps(&mut lines, n, telling.counts, ended)?;
     tell_exit(&mut lines, telling.place, session, ended)?;
     Ok(lines)
@@ -262,6 +274,7 @@ pub fn lines_of_move(
     let n = next_number(telling);
     let mut lines = String::new(alloc);
     tell_refusal(&mut lines, n, code)?;
+    tell_profile(&mut lines, n, session.editor().profile())?;
     tell_history(&mut lines, n, telling.counts, session)?;
     Ok(lines)
 }

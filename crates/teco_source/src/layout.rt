@@ -85,13 +85,13 @@ fn line_end(text: &[u8], at: usize, to: usize) -> usize
 }
 
 /// The place after a whole block whose opening ends at a place, if all of it is before another place.
-fn short_block(text: &[u8], at: usize, kind: Kind, limit: usize) -> Option<usize>
+fn short_block(profile: Profile, text: &[u8], at: usize, kind: Kind, limit: usize) -> Option<usize>
     ensures { IfSome result (λ to. (at ≤ to) × (to ≤ length text.now)) }
 {
     if at > limit || limit > text.len() {
         return None;
     }
-    match skip_whole_block(Profile::Named, &text[..limit], at, kind, 1) {
+    match skip_whole_block(profile, &text[..limit], at, kind, 1) {
         Ok(to) => Some(to),
         Err(_) => None,
     }
@@ -111,6 +111,7 @@ pub struct ListingLine {
 /// A layout goes over a text from its beginning.
 #[derive(Clone, Copy)]
 pub struct Layout {
+    profile: Profile,
     /// How long a line may become before it is broken.
     width: usize,
     /// How many blocks are open.
@@ -123,8 +124,9 @@ pub struct Layout {
 const DEEPEST: usize = 20;
 
 impl Layout {
-    pub fn new(width: usize) -> Self {
+    pub fn new(profile: Profile, width: usize) -> Self {
         Self {
+            profile,
             width,
             depth: 0,
             stop: 0,
@@ -135,7 +137,7 @@ impl Layout {
     fn margin(&self, text: &[u8], at: usize) -> usize
         requires { at ≤ length text.now }
     {
-        let depth = match token_at(Profile::Named, text, at) {
+        let depth = match token_at(self.profile, text, at) {
             Found::Token(token) => match role_of(token.kind, false) {
                 TokenRole::Closes | TokenRole::Divides => self.depth.saturating_sub(1),
                 _ => self.depth,
@@ -154,7 +156,7 @@ impl Layout {
         match role {
             TokenRole::Opens(kind) => {
                 let limit = text.len().min(at.saturating_add(self.width));
-                if let Some(end) = short_block(text, to, kind, limit) {
+                if let Some(end) = short_block(self.profile, text, to, kind, limit) {
                     return (end, is_at(text, end, b'\n'));
                 }
                 self.depth = self.depth.saturating_add(1);
@@ -178,7 +180,7 @@ impl Layout {
         let mut to = at;
         let mut has_number = false;
         while to < text.len() {
-            let Found::Token(token) = token_at(Profile::Named, text, to) else {
+            let Found::Token(token) = token_at(self.profile, text, to) else {
                 return text.len();
             };
             let role = role_of(token.kind, has_number);

@@ -8,7 +8,7 @@ use crate::notes::push_words;
 use crate::reader::ends_line;
 use crate::{Mode, Note, push_line, source_laws};
 use std::alloc::Global;
-use teco_core::NoMemory;
+use teco_core::{NoMemory, Profile};
 
 /// Where a reader is before the next line, when it has read the text up to a place.
 fn line_mode(text: &[u8], at: usize) -> Mode
@@ -75,21 +75,26 @@ fn push_part(
     push_line(out, mode, margin, part, note)
 }
 
-/// A source of a text, whose lines go by its commands and blocks. With words each line has what its commands do as a note.
+/// A source of a text, whose lines go by its commands and blocks in a profile. With words each line has what its commands do as a note.
 ///
 /// Whatever the lines and the notes are, the source stands for the text.
-pub fn listing(alloc: Global, text: &[u8], with_words: bool) -> Result<Vec<u8>, NoMemory>
+pub fn listing(
+    alloc: Global,
+    profile: Profile,
+    text: &[u8],
+    with_words: bool,
+) -> Result<Vec<u8>, NoMemory>
     ensures { IfOk result (λ v. commands_of v.items ≡ Ok text.now) }
 {
     source_laws();
     let mut out = Vec::new(alloc);
-    let mut layout = Layout::new(if with_words { 0 } else { WIDTH });
+    let mut layout = Layout::new(profile, if with_words { 0 } else { WIDTH });
     let mut at = 0;
     while at < text.len() {
         let line = layout.next_line(text, at);
         let mut words = Vec::new(alloc);
         if with_words {
-            push_words(&mut words, text, at, line.told)?;
+            push_words(&mut words, profile, text, at, line.told)?;
         }
         push_part(&mut out, text, at, line, &words)?;
         at = line.to;

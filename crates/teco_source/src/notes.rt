@@ -19,13 +19,19 @@ fn push_token(out: &mut Vec<u8>, token: &Token, has_number: bool) -> Result<(), 
 /// told, and neither is a tag.
 ///
 /// Nothing is read at the second place or after it: a line within a text would be taken for commands, each up to the text's end.
-pub fn push_words(out: &mut Vec<u8>, text: &[u8], at: usize, to: usize) -> Result<(), NoMemory>
+pub fn push_words(
+    out: &mut Vec<u8>,
+    profile: Profile,
+    text: &[u8],
+    at: usize,
+    to: usize,
+) -> Result<(), NoMemory>
     requires { at ≤ length text.now }
 {
     let mut place = at;
     let mut has_number = false;
     while place < to && place < text.len() {
-        let Found::Token(token) = token_at(Profile::Named, text, place) else {
+        let Found::Token(token) = token_at(profile, text, place) else {
             return Ok(());
         };
         if token.span.from >= to {

@@ -26,8 +26,10 @@ fn arithmetic_words(arithmetic: Arithmetic) -> &'static str {
     }
 }
 
-fn level_words(command: LevelCommand, has_number: bool) -> &'static str {
+fn level_words(command: LevelCommand, colons: u8, has_number: bool) -> &'static str {
     match (command, has_number) {
+        (LevelCommand::Append, false) if colons > 0 =>
+            ":A  reads the next page after the text, and gives -1, or 0 where no input is left",
         (LevelCommand::Append, false) => "A  reads the next page after the text",
         (LevelCommand::Append, true) =>
             "nA  the code of the nth byte after the pointer from 0, or -1",
@@ -51,11 +53,17 @@ fn command_words(command: Command, colons: u8) -> &'static str {
         Command::Print => "n=  prints n in decimal, with CR LF",
         Command::PrintOctal if colons > 0 => "n:==  prints n in octal, without CR LF",
         Command::PrintOctal => "n==  prints n in octal, with CR LF",
+        Command::NextPage if colons > 0 =>
+            ":Y  reads the next page into an empty buffer, and gives -1, or 0 where no input is left",
         Command::NextPage => "Y  reads the next page into an empty buffer",
+        Command::TurnPages if colons > 0 =>
+            "n:P  n times: writes the page and its FF, and reads the next; gives -1, or 0 where no input is left",
         Command::TurnPages => "nP  n times: writes the page and its FF, and reads the next",
         Command::WritePage =>
             "PW  writes the text and FF, or with m,nPW a part without FF; the text stays",
         Command::Exit => "EX  writes the page and the rest, and ends the program",
+        Command::Leave if colons > 0 =>
+            "n:;  leaves the iteration where n is below 0; without n, where the last search found its text",
         Command::Leave =>
             "n;  leaves the iteration where n is 0 or more; without n, where the last search failed",
         Command::CaseMode => "n^X  0: searches take either case; -1: they don't",
@@ -68,6 +76,8 @@ fn register_words(command: RegisterCommand, colons: u8) -> &'static str {
         RegisterCommand::Number => "Qq  the number of q",
         RegisterCommand::Increment => "n%q  adds n to the number of q, and gives the sum",
         RegisterCommand::Set => "nUq  makes n the number of q",
+        RegisterCommand::Extract if colons > 0 =>
+            "n:Xq  appends lines, or with m,n:Xq what is between two places, to the text of q",
         RegisterCommand::Extract =>
             "nXq  makes lines, or with m,nXq what is between two places, the text of q",
         RegisterCommand::Get if colons > 0 => ":Gq  prints the text of q",
@@ -136,11 +146,12 @@ fn item_words(item: Item, colons: u8, has_number: bool) -> &'static str {
         Item::Digits(_) => "digits  a number",
         Item::Bare(Bare::Quantity(quantity)) => quantity_words(quantity),
         Item::Bare(Bare::Arithmetic(arithmetic)) => arithmetic_words(arithmetic),
-        Item::Bare(Bare::Level(command)) => level_words(command, has_number),
+        Item::Bare(Bare::Level(command)) => level_words(command, colons, has_number),
         Item::Bare(Bare::Command(command)) => command_words(command, colons),
         Item::Register(command, _) => register_words(command, colons),
         Item::Byte(_) => "^^x  the code of the byte x",
         Item::Text(command, _) => text_words(command, colons, has_number),
+        Item::SetText(..) if colons > 0 => ":^Uqtext$  appends the text to that of q",
         Item::SetText(..) => "^Uqtext$  makes the text that of q",
         Item::Replace(..) if colons > 0 =>
             "n:FSone$two$  looks for one, puts two in its place, and gives -1 or 0",

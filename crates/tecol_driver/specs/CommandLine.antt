@@ -1,5 +1,5 @@
 -- What the command line says: tecol [OPTIONS] [FILE]
-use Rattle.std.specs.Prelude.{◌≡◌, ◌↔◌, ◌⊎◌, ⊤, List, [], ◌∷◌, codes, map, Some, unwrap_or, Bool, true, false, ◌&&◌, IsTrue}
+use Rattle.std.specs.Prelude.{◌≡◌, ◌↔◌, ◌⊎◌, ⊤, List, [], ◌∷◌, codes, map, None, Some, unwrap_or, Bool, true, false, ◌&&◌, IsTrue}
 use Rattle.std.specs.String.{string_bytes}
 use Rattle.clap.specs.Words.{App, IsAmong, Row, Rule, Text, fault_of, first_of, matches_of, new_rule, one_of, takes}
 use Rattle.clap.specs.declared.builder.action.ArgAction.TheVariants.{Set}
@@ -8,6 +8,7 @@ use Rattle.clap.specs.declared.error.kind.ErrorKind.TheVariants as kind
 use Rattle.teco_cli.specs.Parsing.{program_app}
 use Rattle.teco_cli.specs.OptionTable.{flag, with_rules, with_text}
 use Rattle.teco_cli.specs.Refusals.{IsToldAs}
+use Rattle.teco_cli.specs.Values.{IsProfile}
 use Rattle.teco_cli.specs.declared.fault.LineFault.{LineFault}
 use Rattle.teco_cli.specs.declared.fault.LineFault.TheVariants as line_fault
 use Rattle.teco_cli.specs.declared.refusal.Refusal.{Refusal}
@@ -25,6 +26,7 @@ tecol_rules = flag (codes "reverse") (Some 114)
     ∷ flag (codes "words") (Some 119)
     ∷ flag (codes "check") (Some 99)
     ∷ with_text (codes "output") (Some 111)
+    ∷ flag (codes "wide") None
     ∷ file_rule
     ∷ []
 
@@ -51,6 +53,7 @@ pub record GivesLine (rows : List Row) (line : TecolLine) : Type 0 where
   pub reverse_is : IsFlag rows (codes "reverse") reverse
   pub words_is : IsFlag rows (codes "words") line.words
   pub check_is : IsFlag rows (codes "check") check
+  pub profile : IsProfile rows line.profile
   -- a check with words is no line
   pub fits : check && line.words ≡ false
   pub mode : line.mode ≡ mode_by reverse line.words check

@@ -24,7 +24,6 @@ use Rattle.tecol_driver.specs.Made.{IsMade}
 use Rattle.tecol_driver.specs.declared.fate.TecolFate.{TecolFate}
 use Rattle.tecol_driver.specs.declared.fate.TecolFate.TheVariants.{Done, Faulty, Unreadable, NoInput, LargeInput, NoMemory, NoOutput}
 use Rattle.tecol_driver.specs.declared.line.TecolLine.{TecolLine}
-use Rattle.tecol_driver.specs.declared.line.TecolMode.{TecolMode}
 use Rattle.tecol_driver.specs.declared.made.Made.{Made}
 use Rattle.tecol_driver.specs.declared.made.Made.TheVariants as made
 
@@ -142,9 +141,9 @@ MakesAndPuts is_made input output NoMemory = output.keeps ⊎ FailsWith is_made 
 MakesAndPuts is_made input output (NoOutput reason) = FailsWith is_made output (NoOutput reason)
 
 -- The input was read, and the run ends by what was made of it; or it was not read, and nothing is written.
-abbrev pub EndsAfter : TecolMode → Result (Vec ℕ Global) TecolFate → Output → TecolFate → Type 0
-EndsAfter mode (Ok input) output fate = MakesAndPuts (IsMade mode input.items) input.items output fate
-EndsAfter mode (Err lack) output fate = (fate ≡ lack) × output.keeps
+abbrev pub EndsAfter : TecolLine → Result (Vec ℕ Global) TecolFate → Output → TecolFate → Type 0
+EndsAfter line (Ok input) output fate = MakesAndPuts (IsMade line.profile line.mode input.items) input.items output fate
+EndsAfter line (Err lack) output fate = (fate ≡ lack) × output.keeps
 
 -- how what a run changes is seen
 pub record View (D I S T : Type 0) : Type 1 where
@@ -166,7 +165,7 @@ pub record RunsOver {D I S T : Type 0} (view : View D I S T) (line : TecolLine) 
   pub input : Result (Vec ℕ Global) TecolFate
   pub reads : ReadsInput (is_standard_input (string_bytes line.input)) view.stream (string_bytes line.input)
       (view.disk old.disk) (view.disk mid) old.stream new.stream input
-  pub ends : EndsAfter line.mode input
+  pub ends : EndsAfter line input
       (output_of view.screen line (view.disk mid) (view.disk new.disk) old.term new.term) fate
 
 -- The line of the fate is told on standard error, and the status is that of the fate. Or memory is refused for the

@@ -1,5 +1,7 @@
 //! What the command line says.
 
+use teco_core::Profile;
+
 /// What a run makes of its input.
 #[derive(Clone, Copy)]
 pub enum TecolMode {
@@ -23,6 +25,8 @@ pub struct TecolLine {
     /// The name of the output; `-` is standard output.
     pub output: String,
     pub mode: TecolMode,
+    /// The language of the commands.
+    pub profile: Profile,
     /// Whether a listing has words.
     pub words: bool,
 }

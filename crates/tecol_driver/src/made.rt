@@ -6,6 +6,7 @@ use crate::line::{TecolLine, TecolMode};
 use std::alloc::Global;
 use teco_core::NoMemory;
 use teco_lint::{check, report};
+use teco_scan::Text;
 use teco_source::{ReaderFault, beginnings, commands, listing};
 
 /// What was made.
@@ -26,12 +27,12 @@ fn check_in(
     name: &str,
     source: &[u8],
     places: Option<&[usize]>,
-    bytes: &[u8],
+    commands: Text<'_>,
 ) -> Result<Made, NoMemory>
-    ensures { IfOk result (IsVerdict bytes.now) }
+    ensures { IfOk result (IsVerdict commands.entry.profile commands.entry.bytes.now) }
 {
-    let advice = check(alloc, bytes)?;
-    let lines = report(alloc, name, source, places, bytes, &advice.remarks)?.into_bytes();
+    let advice = check(alloc, commands.profile, commands.bytes)?;
+    let lines = report(alloc, name, source, places, commands, &advice.remarks)?.into_bytes();
     if advice.is_faulty {
         return Ok(Made::Faulty(lines));
     }
@@ -45,21 +46,25 @@ fn make_of_commands(
     source: &[u8],
     bytes: Vec<u8>,
 ) -> Result<Made, NoMemory>
-    ensures { IfOk result (IsMadeOf line.now.mode bytes.items) }
+    ensures { IfOk result (IsMadeOf line.now.profile line.now.mode bytes.items) }
 {
     match line.mode {
         TecolMode::CheckSource => {
             let places = beginnings(alloc, source)?;
-            check_in(alloc, line.input.as_str(), source, Some(&places), &bytes)
+            let commands = Text {
+                profile: line.profile,
+                bytes: &bytes,
+            };
+            check_in(alloc, line.input.as_str(), source, Some(&places), commands)
         }
-        TecolMode::Again => Ok(Made::Fine(listing(alloc, &bytes, line.words)?)),
+        TecolMode::Again => Ok(Made::Fine(listing(alloc, line.profile, &bytes, line.words)?)),
         _ => Ok(Made::Fine(bytes)),
     }
 }
 
 /// What is made of a source.
 fn make_of_source(alloc: Global, line: &TecolLine, source: &[u8]) -> Result<Made, NoMemory>
-    ensures { IfOk result (IsMadeOfSource line.now.mode source.now) }
+    ensures { IfOk result (IsMadeOfSource line.now.profile line.now.mode source.now) }
 {
     match commands(alloc, source) {
         Ok(bytes) => make_of_commands(alloc, line, source, bytes),
@@ -70,11 +75,17 @@ fn make_of_source(alloc: Global, line: &TecolLine, source: &[u8]) -> Result<Made
 
 /// What the line asks to be made of an input.
 pub fn make(alloc: Global, line: &TecolLine, input: &[u8]) -> Result<Made, NoMemory>
-    ensures { IfOk result (IsMade line.now.mode input.now) }
+    ensures { IfOk result (IsMade line.now.profile line.now.mode input.now) }
 {
     match line.mode {
-        TecolMode::Listing => Ok(Made::Fine(listing(alloc, input, line.words)?)),
-        TecolMode::CheckBytes => check_in(alloc, line.input.as_str(), input, None, input),
+        TecolMode::Listing => Ok(Made::Fine(listing(alloc, line.profile, input, line.words)?)),
+        TecolMode::CheckBytes => {
+            let commands = Text {
+                profile: line.profile,
+                bytes: input,
+            };
+            check_in(alloc, line.input.as_str(), input, None, commands)
+        }
         _ => make_of_source(alloc, line, input),
     }
 }

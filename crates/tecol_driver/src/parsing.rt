@@ -8,7 +8,9 @@ ghost use Rattle.teco_cli.specs.OptionTable.{rule_by};
 use crate::line::{TecolLine, TecolMode};
 use clap::ArgMatches;
 use std::alloc::Global;
-use teco_cli::{CommandLine, LineFault, OptionRow, Program, Takes, faulty, flag_at, parsed};
+use teco_cli::{
+    CommandLine, LineFault, OptionRow, Program, Takes, faulty, flag_at, parsed, profile_at,
+};
 use teco_core::NoMemory;
 
 /// What the help says after the options.
@@ -30,7 +32,7 @@ static PROGRAM: Program = Program {
 };
 
 /// Every option, in the order of the help, and then the file.
-static ARGUMENTS: [OptionRow; 5] = [
+static ARGUMENTS: [OptionRow; 6] = [
     OptionRow {
         name: "reverse",
         short: Some('r'),
@@ -58,6 +60,13 @@ static ARGUMENTS: [OptionRow; 5] = [
         takes: Takes::Text,
         value: "FILE",
         help: "Where the output goes, - for standard output; a file has it whole or stays as it was",
+    },
+    OptionRow {
+        name: "wide",
+        short: None,
+        takes: Takes::Nothing,
+        value: "",
+        help: "Reads the commands in the wider language of old macros",
     },
     OptionRow {
         name: "input",
@@ -122,6 +131,7 @@ fn line_in<'a>(alloc: Global, matches: &ArgMatches<'a>) -> Result<TecolLine, Lin
         input: text_at(alloc, matches, "input")?,
         output: text_at(alloc, matches, "output")?,
         mode: mode_by(reverse, words, check),
+        profile: profile_at(matches),
         words,
     })
 }

@@ -93,7 +93,7 @@ fn make_and_put<T: Terminal, D: Disk>(
     disk: &mut D,
 ) -> TecolFate
     ensures { let seen = disk_seen D.Disk D.Input.Source in
-        MakesAndPuts (IsMade line.now.mode input.now) input.now
+        MakesAndPuts (IsMade line.now.profile line.now.mode input.now) input.now
         (output_of T.screen line.now (seen disk.old) (seen disk.new) term.old term.new) result }
 {
     let (bytes, is_faulty) = match make(alloc, line, input) {

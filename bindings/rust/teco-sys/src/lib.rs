@@ -164,6 +164,8 @@ pub struct teco_resumed {
 extern "C" {
     /// Opens a session over a copy of the input.
     pub fn teco_open(t: *mut teco, input: *const u8, n: usize, lines: usize, depth: usize) -> u8;
+    /// Opens a session in the wide language.
+    pub fn teco_open_wide(t: *mut teco, input: *const u8, n: usize, lines: usize, depth: usize) -> u8;
     /// Closes a session and frees its memory.
     pub fn teco_close(t: *mut teco);
     /// Runs a command string.
@@ -184,12 +186,16 @@ extern "C" {
     pub fn teco_forget(t: *mut teco) -> u8;
     /// Gives the head of a session's file.
     pub fn teco_head(input: *const u8, n: usize, lines: usize, depth: usize, line: *mut teco_line) -> u8;
+    /// Gives the head of the file of a session in the wide language.
+    pub fn teco_head_wide(input: *const u8, n: usize, lines: usize, depth: usize, line: *mut teco_line) -> u8;
     /// Gives the line of a request.
     pub fn teco_record(text: *const u8, n: usize, line: *mut teco_line) -> u8;
     /// Opens the session that the bytes of its file have.
     pub fn teco_resume(t: *mut teco, bytes: *const u8, n: usize, resumed: *mut teco_resumed) -> u8;
     /// Reads what stands at a place of a text.
     pub fn teco_token(text: *const u8, n: usize, at: usize, token: *mut teco_token) -> u8;
+    /// Reads what stands at a place of a text in the wide language.
+    pub fn teco_token_wide(text: *const u8, n: usize, at: usize, token: *mut teco_token) -> u8;
     /// Gives the bytes that a source stands for.
     pub fn teco_source(source: *const u8, n: usize, room: *mut u8, size: usize, told: *mut teco_source) -> u8;
     /// How many strings are kept.
@@ -236,4 +242,6 @@ extern "C" {
     pub fn teco_form_feed(t: *const teco) -> u8;
     /// 1 if searches find a letter in either case, else 0.
     pub fn teco_either_case(t: *const teco) -> u8;
+    /// 1 if the session is in the wide language, else 0.
+    pub fn teco_is_wide(t: *const teco) -> u8;
 }

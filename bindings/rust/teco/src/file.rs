@@ -3,7 +3,7 @@
 //! The caller writes it. It begins with the head. After each request that was not refused, and before its outcome is shown, the line of it
 //! comes behind those before. So a crash loses one request at most.
 
-use crate::{sys, Session};
+use crate::{sys, OpenOptions, Session};
 use std::error::Error;
 use std::fmt;
 use std::ptr;
@@ -101,10 +101,21 @@ impl Lines {
 
     /// The same of a session with pages of so many [lines](crate::OpenOptions::page_lines).
     pub fn begin_pages(input: &[u8], page_lines: usize, depth: usize) -> Option<(Lines, Vec<u8>)> {
+        Lines::begin_with(input, &OpenOptions::new().page_lines(page_lines).depth(depth))
+    }
+
+    /// The same of a session that is opened with these options.
+    pub fn begin_with(input: &[u8], options: &OpenOptions) -> Option<(Lines, Vec<u8>)> {
         let mut lines = Lines { check: [0; 16] };
+        let (at, size, page_lines, depth) = (input.as_ptr(), input.len(), options.page_lines, options.depth);
         // SAFETY: the input is a slice, and `put` keeps the line.
-        let head =
-            lines.put(0, 0, |line| unsafe { sys::teco_head(input.as_ptr(), input.len(), page_lines, depth, line) })?;
+        let head = lines.put(0, 0, |line| unsafe {
+            if options.wide {
+                sys::teco_head_wide(at, size, page_lines, depth, line)
+            } else {
+                sys::teco_head(at, size, page_lines, depth, line)
+            }
+        })?;
         Some((lines, head))
     }
 

@@ -74,7 +74,7 @@ pub use session::{Nothing, Session};
 pub use source::{source, Unreadable};
 pub use stopper::Stopper;
 pub use strings::Strings;
-pub use token::{token, Fault, Token, TokenKind};
+pub use token::{token, token_wide, Fault, Token, TokenKind};
 
 use teco_sys as sys;
 

@@ -5,7 +5,7 @@ use std::error::Error;
 use std::fmt;
 use std::ptr;
 
-/// Options for opening a session: how many strings it keeps, and how long its pages are.
+/// Options for opening a session: how many strings it keeps, how long its pages are, and its language.
 ///
 /// ```
 /// use teco::{OpenOptions, RunOptions};
@@ -18,12 +18,13 @@ use std::ptr;
 #[derive(Clone, Debug, Default, PartialEq, Eq)]
 #[must_use]
 pub struct OpenOptions {
-    page_lines: usize,
-    depth: usize,
+    pub(crate) page_lines: usize,
+    pub(crate) depth: usize,
+    pub(crate) wide: bool,
 }
 
 impl OpenOptions {
-    /// Options of a session that keeps all strings, and whose pages end at form feeds alone.
+    /// Options of a session that keeps all strings, whose pages end at form feeds alone, and that is not wide.
     pub fn new() -> OpenOptions {
         OpenOptions::default()
     }
@@ -40,6 +41,20 @@ impl OpenOptions {
         self
     }
 
+    /// Reads command strings in the wide language, that of `--wide` of the programs, which reads old macros.
+    ///
+    /// ```
+    /// use teco::OpenOptions;
+    ///
+    /// let mut session = OpenOptions::new().wide(true).open("")?;
+    /// assert_eq!(session.run("0\"=1='")?.printed, b"1\r\n");
+    /// # Ok::<(), Box<dyn std::error::Error>>(())
+    /// ```
+    pub fn wide(mut self, wide: bool) -> OpenOptions {
+        self.wide = wide;
+        self
+    }
+
     /// Opens a session over a copy of the input.
     ///
     /// # Errors
@@ -47,8 +62,16 @@ impl OpenOptions {
     /// See [`OpenError`].
     pub fn open(&self, input: impl AsRef<[u8]>) -> Result<Session, OpenError> {
         let (input, mut handle) = (input.as_ref(), sys::teco { at: ptr::null_mut() });
+        let (at, size, lines, depth) = (input.as_ptr(), input.len(), self.page_lines, self.depth);
         // SAFETY: the handle is closed, and the input is a slice.
-        match unsafe { sys::teco_open(&mut handle, input.as_ptr(), input.len(), self.page_lines, self.depth) } {
+        let answer = unsafe {
+            if self.wide {
+                sys::teco_open_wide(&mut handle, at, size, lines, depth)
+            } else {
+                sys::teco_open(&mut handle, at, size, lines, depth)
+            }
+        };
+        match answer {
             0 => Ok(Session::of(handle)),
             sys::TECO_LARGE => Err(OpenError::TooLarge),
             sys::TECO_DEEP => Err(OpenError::TooDeep),

@@ -228,6 +228,11 @@ impl Session {
         self.is(sys::teco_either_case)
     }
 
+    /// Whether command strings are read in the wide language. See [`OpenOptions::wide`].
+    pub fn is_wide(&self) -> bool {
+        self.is(sys::teco_is_wide)
+    }
+
     fn is(&self, call: Flag) -> bool {
         // SAFETY: the handle is open.
         unsafe { call(&self.handle) == 1 }

@@ -75,10 +75,32 @@ pub struct Fault {
 ///
 /// [`Fault`] if no token can be read there.
 pub fn token(text: &[u8], at: usize) -> Result<Option<Token>, Fault> {
-    let mut told = sys::teco_token::default();
     // SAFETY: the text is a slice.
-    let answer = unsafe { sys::teco_token(text.as_ptr(), text.len(), at, &mut told) };
-    match answer {
+    read(|told| unsafe { sys::teco_token(text.as_ptr(), text.len(), at, told) })
+}
+
+/// What stands at byte `at` of a text, as [`token`] gives it, in the [wide](crate::OpenOptions::wide) language.
+///
+/// ```
+/// use teco::{token, token_wide, Code, TokenKind};
+///
+/// assert_eq!(token(b"\"=J'", 0).unwrap_err().code, Code::Iqc);
+/// assert_eq!(token_wide(b"\"=J'", 0)?.unwrap().kind, TokenKind::Test);
+/// # Ok::<(), teco::Fault>(())
+/// ```
+///
+/// # Errors
+///
+/// [`Fault`] if no token can be read there.
+pub fn token_wide(text: &[u8], at: usize) -> Result<Option<Token>, Fault> {
+    // SAFETY: the text is a slice.
+    read(|told| unsafe { sys::teco_token_wide(text.as_ptr(), text.len(), at, told) })
+}
+
+/// What a call tells.
+fn read(call: impl FnOnce(&mut sys::teco_token) -> u8) -> Result<Option<Token>, Fault> {
+    let mut told = sys::teco_token::default();
+    match call(&mut told) {
         0 => Ok(TokenKind::of(told.kind).map(|kind| Token { from: told.from, to: told.to, kind, size: told.size })),
         sys::TECO_NO_TOKEN => Ok(None),
         code => Err(Fault { at: told.from, code: Code::of_answer(code) }),

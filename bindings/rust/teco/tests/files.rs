@@ -93,6 +93,22 @@ fn a_session_with_pages_is_opened_again() {
 }
 
 #[test]
+fn a_wide_session_is_opened_again() {
+    let options = OpenOptions::new().wide(true).page_lines(1).depth(3);
+    let mut session = options.open("one\ntwo").unwrap();
+    let (mut lines, mut file) = Lines::begin_with(b"one\ntwo", &options).unwrap();
+    assert!(file.starts_with(b"teco session 1 wide\nlines 1\ndepth 3\n"));
+    run_kept(&mut session, b"Y0\"=:XQ'", &mut lines, &mut file);
+    let (again, resumed) = Session::resume(&file).unwrap();
+    assert_eq!((again.is_wide(), again.register(b'Q')), (true, Some(b"one\n".to_vec())));
+    assert_eq!((resumed.records, resumed.page_lines, resumed.lines), (1, 1, lines));
+    assert_alike(&session, &again);
+    let head = Lines::begin_with(b"one", &options.wide(false)).unwrap();
+    assert_eq!(Lines::begin_pages(b"one", 1, 3), Some(head.clone()));
+    assert!(!Session::resume(&head.1).unwrap().0.is_wide());
+}
+
+#[test]
 fn inserted_data_is_kept() {
     let (mut session, all) = (Session::open("").unwrap(), (0..=255).collect::<Vec<u8>>());
     let (mut lines, mut file) = Lines::begin(b"", 0).unwrap();

@@ -4,7 +4,7 @@ use std::iter;
 use teco::{
     source, token, Change, Code, Fault, Kind, Nothing, OpenError, OpenOptions, RunOptions, Session, Token, TokenKind,
 };
-use teco::{Unreadable, INPUT_LIMIT};
+use teco::{token_wide, Unreadable, INPUT_LIMIT};
 
 #[test]
 fn a_string_is_run_undone_and_redone() {
@@ -176,6 +176,32 @@ fn what_stands_in_a_text_is_read() {
         let read = token(&text, 0).unwrap().unwrap();
         assert_eq!((read.to, read.kind as usize), (text.len(), i));
     }
+}
+
+#[test]
+fn a_session_is_in_one_language() {
+    let options = OpenOptions::new().wide(true).depth(2).page_lines(1);
+    let (mut wide, mut session) = (options.open("one\ntwo").unwrap(), Session::open("").unwrap());
+    assert_eq!((wide.is_wide(), session.is_wide()), (true, false));
+    let iqc = session.run("0\"=1='").map_err(|failed| (failed.code, failed.place.map(|place| place.at)));
+    assert_eq!((wide.run("0\"=1='").unwrap().printed, iqc), (b"1\r\n".to_vec(), Err((Code::Iqc, Some(1)))));
+    wide.run("Iab\x1bJ:XA\x1b\x1b").unwrap();
+    wide.run(":XA").unwrap();
+    assert_eq!((wide.register(b'A'), wide.strings().len()), (Some(b"abab".to_vec()), 2));
+    wide.run("HKY").unwrap();
+    assert_eq!((wide.text(), wide.undo(), wide.undo(), wide.is_wide()), (b"one\n".to_vec(), Ok(()), Ok(()), true));
+    assert_eq!(options.clone().depth(100_001).open("").unwrap_err(), OpenError::TooDeep);
+    assert!(!options.wide(false).open("").unwrap().is_wide());
+}
+
+#[test]
+fn tokens_are_of_one_language() {
+    let kind = TokenKind::Register;
+    assert_eq!(token_wide(b" :XAJ", 0), Ok(Some(Token { from: 1, to: 4, kind, size: 0 })));
+    assert_eq!(token(b" :XAJ", 0), Err(Fault { at: 1, code: Code::Ill }));
+    assert_eq!(token_wide(b"\"=J'", 0).unwrap().map(|token| token.to), Some(2));
+    assert_eq!(token_wide(b"Iab\x1b", 0), token(b"Iab\x1b", 0));
+    assert_eq!((token_wide(b"J", usize::MAX), token_wide(b"Iab", 0)), (Ok(None), Err(Fault { at: 0, code: Code::Utc })));
 }
 
 #[test]

@@ -8,7 +8,7 @@ use crate::{MOST_STEPS, OptionRow, Takes};
 use teco_core::DEPTH_LIMIT;
 
 /// Every option, in the order of the help, and then the operands.
-static OPTIONS: [OptionRow; 20] = [
+static OPTIONS: [OptionRow; 21] = [
     OptionRow {
         name: "execute",
         short: Some('e'),
@@ -134,6 +134,13 @@ static OPTIONS: [OptionRow; 20] = [
         takes: Takes::Nothing,
         value: "",
         help: "Says nothing on standard error of how a run ends; the status stays",
+    },
+    OptionRow {
+        name: "wide",
+        short: None,
+        takes: Takes::Nothing,
+        value: "",
+        help: "Reads the commands in the wider language of old macros",
     },
     OptionRow {
         name: "input",

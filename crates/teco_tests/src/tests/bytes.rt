@@ -1,6 +1,8 @@
 //! Bytes in memory of their own. Where memory was refused, it is asked for a second time.
 use std::alloc::Global;
+use teco_core::Profile;
 use teco_io::{FailAfter, WriterTerminal};
+use teco_scan::Text;
 
 /// Puts a part at the end.
 pub(crate) fn put(bytes: &mut Vec<u8>, part: &[u8]) {
@@ -76,4 +78,12 @@ pub(crate) fn is_typed(screen: &Screen, typed: &str) -> bool {
 pub(crate) fn are_both(parts: (&[u8], &[u8]), bytes: &[u8]) -> bool {
     let (front, rest) = bytes.split_at(parts.0.len().min(bytes.len()));
     are(parts.0, front) && are(parts.1, rest)
+}
+
+/// Bytes that are read in the language that is meant where none is said.
+pub(crate) fn named_text(bytes: &[u8]) -> Text<'_> {
+    Text {
+        profile: Profile::Named,
+        bytes,
+    }
 }

@@ -151,7 +151,7 @@ fn a_source_is_understood(alloc: Global) -> bool {
 
 /// teco_source: a text as a source.
 fn a_text_is_listed(alloc: Global) -> bool {
-    match listing(alloc, b"Iab\x1bT", false) {
+    match listing(alloc, Profile::Named, b"Iab\x1bT", false) {
         Ok(source) => are(&source, b"Iab$T\n"),
         Err(_) => false,
     }
@@ -168,7 +168,8 @@ fn a_record_is_put(alloc: Global) -> bool {
 fn a_session_is_resumed(alloc: Global) -> bool {
     let text = joined(alloc, &[b"Ihello\x1b"]);
     let records = [Record::Run { steps: 1, text }, Record::Undo];
-    match resume(Vec::new(alloc), 0, None, &records, &mut wide_screen(alloc)) {
+    let (input, mut term) = (Vec::new(alloc), wide_screen(alloc));
+    match resume(Profile::Named, input, 0, None, &records, &mut term) {
         Ok(session) => session.strings() == 1 && session.cursor() == 0,
         Err(_) => false,
     }
@@ -176,7 +177,7 @@ fn a_session_is_resumed(alloc: Global) -> bool {
 
 /// teco_check: no command begins with `?`.
 fn an_unknown_command_is_found() -> bool {
-    match teco_check::first_fault(b"5=?", &[false; REGISTERS]) {
+    match teco_check::first_fault(Profile::Named, b"5=?", &[false; REGISTERS]) {
         Some(fault) => fault.at == 2,
         None => false,
     }
@@ -184,12 +185,12 @@ fn an_unknown_command_is_found() -> bool {
 
 /// teco_check: a text without a fault.
 fn a_clean_text_is_told(alloc: Global) -> bool {
-    fault_of(alloc, b"3<%A>", &[false; REGISTERS]).is_none()
+    fault_of(alloc, Profile::Named, b"3<%A>", &[false; REGISTERS]).is_none()
 }
 
 /// teco_lint: the second of two command strings has a fault.
 fn a_fault_is_told(alloc: Global) -> bool {
-    match check(alloc, b"5=\x1b\x1b5>\x1b\x1b") {
+    match check(alloc, Profile::Named, b"5=\x1b\x1b5>\x1b\x1b") {
         Ok(advice) => advice.is_faulty,
         Err(_) => false,
     }

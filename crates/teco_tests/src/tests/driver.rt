@@ -1,6 +1,6 @@
 //! Of teco_driver: its parts, and runs of the whole program over files in memory.
 use super::bytes::{Screen, are_there, first_of, is, is_typed, joined, screen_of, wide_screen};
-use super::line_commands::{checked, explained, kept, manners, shown, sources, values};
+use super::line_commands::{checked, explained, kept, manners, shown, sources, values, wide};
 use super::rows::{Cells, Rule, all_hold, cells_of, halves_at, number_or};
 use super::tecol::runs;
 use std::alloc::Global;
@@ -270,6 +270,7 @@ fn table(at: usize) -> &'static str {
         7 => runs::ROWS,
         8 => values::ROWS,
         9 => kept::ROWS,
+        10 => wide::ROWS,
         _ => "",
     }
 }

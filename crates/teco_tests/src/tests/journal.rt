@@ -4,6 +4,7 @@ use super::bytes::{are, is};
 use super::rows::{Rule, all_hold, cells_of, number_or, text_of};
 use std::alloc::Global;
 use std::test::*;
+use teco_core::Profile;
 use teco_journal::{
     Ending, HeadFault, SessionFault, Start, new_head, read_head, read_journal, read_session,
 };
@@ -45,18 +46,30 @@ impl Rule for Reads {
     }
 }
 
-/// The lines of a page, the depth, the input, and the head.
+/// The profile, the lines of a page, the depth, the input, and the head.
 const HEADS: &str = "
-    - 0 => every => - => teco session 1\nlines 0\ndepth -\ninput 0\n\n6996772a1af895c2 begun\n
-    - 0 => every => one\ntwo\n => teco session 1\nlines 0\ndepth -\ninput 8\none\ntwo\n\n0742fc23a4ee42a0 begun\n
-    - 66 => 20 => a\x0cb => teco session 1\nlines 66\ndepth 20\ninput 3\na\x0cb\n7d26d7430dc4fe70 begun\n
-    - 0 => 0 => \n\n => teco session 1\nlines 0\ndepth 0\ninput 2\n\n\n\n17617a341613ea1a begun\n";
+    - named => 0 => every => - => teco session 1\nlines 0\ndepth -\ninput 0\n\n6996772a1af895c2 begun\n
+    - named => 0 => every => one\ntwo\n => teco session 1\nlines 0\ndepth -\ninput 8\none\ntwo\n\n0742fc23a4ee42a0 begun\n
+    - named => 66 => 20 => a\x0cb => teco session 1\nlines 66\ndepth 20\ninput 3\na\x0cb\n7d26d7430dc4fe70 begun\n
+    - named => 0 => 0 => \n\n => teco session 1\nlines 0\ndepth 0\ninput 2\n\n\n\n17617a341613ea1a begun\n
+    - wide => 0 => every => - => teco session 1 wide\nlines 0\ndepth -\ninput 0\n\n41a5550b987b23ff begun\n
+    - wide => 66 => 20 => a\x0cb => teco session 1 wide\nlines 66\ndepth 20\ninput 3\na\x0cb\n353483a19304464b begun\n";
+
+/// The profile of a word.
+fn profile_of(word: &str) -> Profile {
+    if is(word, "wide") {
+        Profile::Wide
+    } else {
+        Profile::Named
+    }
+}
 
 /// A head is read as what it was written of.
 fn is_read_as(start: Start<'_>, head: &[u8]) -> bool {
     match read_head(head) {
         Ok(read) => {
-            read.start.lines == start.lines
+            read.start.profile == start.profile
+                && read.start.lines == start.lines
                 && read.start.depth == start.depth
                 && read.start.input == start.input
                 && read.rest.is_empty()
@@ -69,8 +82,9 @@ struct Heads;
 
 impl Rule for Heads {
     fn holds(&self, alloc: Global, row: &str) -> bool {
-        let [lines, depth, input, head, ..] = cells_of(row);
+        let [profile, lines, depth, input, head, ..] = cells_of(row);
         let start = Start {
+            profile: profile_of(profile),
             lines: number_or(lines, 0) as usize,
             depth: if is(depth, "every") {
                 None
@@ -93,13 +107,22 @@ const REFUSED: &str = "
     - teco session 2\n => version
     - ?\n => version
     - teco session 1\n => torn
+    - teco session 1 => torn
+    - teco session 1 wi => torn
+    - teco session 1 wide => torn
+    - teco session 1 wide\n => torn
+    - teco session 1 wider\n => version
+    - teco session 1 Wide\n => version
+    - teco session 1 wide\nlines 0 => torn
+    - teco session 1 wide\nlines 00 => changed
     - teco session 1\nlines 0 => torn
     - teco session 1\nlines 00 => changed
     - teco session 1\nlines 18446744073709551615\ndepth => torn
     - teco session 1\nlines 18446744073709551616\ndepth => changed
     - teco session 1\nlines 0\ndepth +1\n => changed
     - teco session 1\nlines 0\ndepth -\ninput 8\none\n => torn
-    - teco session 1\nlines 0\ndepth -\ninput 4\none\ntwo\n => changed";
+    - teco session 1\nlines 0\ndepth -\ninput 4\none\ntwo\n => changed
+    - teco session 1 wide\nlines 0\ndepth -\ninput 0\n\n6996772a1af895c2 begun\n => changed";
 
 fn fault_word(fault: HeadFault) -> &'static str {
     match fault {

@@ -6,3 +6,4 @@ pub(crate) mod manners;
 pub(crate) mod shown;
 pub(crate) mod sources;
 pub(crate) mod values;
+pub(crate) mod wide;

@@ -7,7 +7,7 @@ use super::driver::{Ticking, refused_of};
 use super::rows::{Cells, Rule, all_hold, cells_of, halves_at, number_or, text_of};
 use std::alloc::Global;
 use std::test::*;
-use teco_core::{DEPTH_LIMIT, FILE_LIMIT};
+use teco_core::{DEPTH_LIMIT, FILE_LIMIT, Profile};
 use teco_fs::MemoryDisk;
 use teco_io::MemorySource;
 use teco_journal::Start;
@@ -22,9 +22,10 @@ const FILE: &str = "s";
 /// The head of a session over `ab`, which a plus stands for.
 const HEAD: &str = "teco session 1\nlines 0\ndepth -\ninput 2\nab\nf78827da5cdb0018 begun\n";
 
-/// The file before; the lines of a page, the depth and the input that it may be begun with; the lines and the depth that are asked for; the
-/// commands; how it is opened, with how many records and torn bytes, and whether a line could not be written then; what is typed; the file
-/// after it; which call is refused; and how many steps are heard of, with a hyphen for none. With an equals sign the file is as it was.
+/// The file before; the lines of a page, the depth and the input that it may be begun with; the lines and the depth that are asked for, and
+/// whether the wide profile is; the commands; how it is opened, with how many records and torn bytes, and whether a line could not be written
+/// then; what is typed; the file after it; which call is refused; and how many steps are heard of, with a hyphen for none. With an equals sign
+/// the file is as it was.
 const ROWS: &str = "
     - // It is begun where no file is, or one that ends before a head does.
     - none => 0 - ab => - - => Y\x1b\x1bHT\x1b\x1b => open 0 0 => ab => +6f6d4bb1d9dcf1a1 run 1 Y$\naac9147d153caa7e run 2 HT$\n => => -
@@ -44,6 +45,11 @@ const ROWS: &str = "
     - +6f6d4bb1d9dcf1a1 run 1 Y$\n => 0 - ab => 66 - => - => settings => - => =
     - +6f6d4bb1d9dcf1a1 run 1 Y$\n => 0 - ab => - 20 => - => settings => - => = => => -
     - teco session 1\nlines 66\ndepth 20\ninput 3\nxyz\nded49c42324136f5 begun\n076d911f80605de8 run 1 Y$\n => 0 - xyz => 66 21 => - => settings => - => =
+    - // A session begins in the profile that is asked for, and goes on in that of its file, in which its strings run again.
+    - none => 0 - ab => - - wide => - => open 0 0 => - => teco session 1 wide\nlines 0\ndepth -\ninput 2\nab\n587671a71e93b4f9 begun\n
+    - teco session 1 wide\nlines 0\ndepth -\ninput 2\nab\n587671a71e93b4f9 begun\n3e5e01f4bb591e3e run 1 Y$\nfdbf597f467ea216 run 3 0\"=Ixy$'$\n => 0 - ab => - - => HT\x1b\x1b => open 2 0 => xyab => teco session 1 wide\nlines 0\ndepth -\ninput 2\nab\n587671a71e93b4f9 begun\n3e5e01f4bb591e3e run 1 Y$\nfdbf597f467ea216 run 3 0\"=Ixy$'$\n614d0e652450ef92 run 2 HT$\n => => 4
+    - teco session 1 wide\nlines 0\ndepth -\ninput 2\nab\n587671a71e93b4f9 begun\n => 0 - ab => - - wide => - => open 0 0 => - => =
+    - + => 0 - ab => - - wide => - => settings => - => = => => -
     - // A line that is not as it was written is told, and nothing is changed.
     - +6f6d4bb1d9dcf1a1 run 1 Y$\naac9147d153caa7e run 3 HT$\n => 0 - ab => - - => - => changed 2 => - => = => => -
     - +6f6d4bb1d9dcf1a1 run 1 Y$\n6f6d4bb1d9dcf1a1 run 1 Y$\n => 0 - ab => - - => - => changed 2 => - => =
@@ -87,8 +93,14 @@ fn number_in(cell: &str) -> Option<usize> {
 
 /// What is asked for.
 fn asked_of(cell: &str) -> Asked {
-    let (lines, depth) = halves_at(cell, " ");
+    let (lines, rest) = halves_at(cell, " ");
+    let (depth, profile) = halves_at(rest, " ");
     Asked {
+        profile: if is(profile, "wide") {
+            Some(Profile::Wide)
+        } else {
+            None
+        },
         lines: number_in(lines),
         depth: number_in(depth),
     }
@@ -132,12 +144,14 @@ fn opened_of(
     };
     let mut input = joined(alloc, &[text_of(input).as_bytes()]);
     input.truncate(FILE_LIMIT);
+    let asked = asked_of(cells[2]);
     let start = Start {
+        profile: asked.profile.unwrap_or(Profile::Named),
         lines: number_or(lines, 0) as usize,
         depth,
         input: input.as_slice(),
     };
-    open_session(alloc, FILE, start, asked_of(cells[2]), disk, ear)
+    open_session(alloc, FILE, start, asked, disk, ear)
 }
 
 /// The bytes of a file.

@@ -7,7 +7,7 @@ use super::session::requests::{Over, Trial, holds_in, ran_at_last, turned};
 use super::store::states::{is_seen, seen};
 use std::alloc::Global;
 use std::test::*;
-use teco_core::{DEPTH_LIMIT, FILE_LIMIT};
+use teco_core::{DEPTH_LIMIT, FILE_LIMIT, Profile};
 use teco_journal::{CHECK_LENGTH, Ending, Record, push_record, read_journal};
 use teco_replay::{ReplayFault, records_of, resume};
 use teco_session::{Answer, Session};
@@ -118,7 +118,14 @@ fn resumed(alloc: Global, over: &Over, lines: &[u8], room: usize) -> Result<Sess
         None => None,
     };
     let mut term = screen_of(alloc, room);
-    resume(input, over.page_lines, depth, &journal.records, &mut term)
+    resume(
+        Profile::Named,
+        input,
+        over.page_lines,
+        depth,
+        &journal.records,
+        &mut term,
+    )
 }
 
 /// Whether two sessions are in the same state.

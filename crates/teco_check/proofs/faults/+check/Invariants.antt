@@ -1,5 +1,4 @@
 use Rattle.std.proofs.Common.{◌≡◌, ◌+◌, ◌-◌, ◌≤◌, ◌*◌, List, length, drop, set}
-use Rattle.teco_core.specs.declared.profile.Profile.TheVariants.{Named}
 use Rattle.teco_scan.specs.Tree.{Nodes}
 use Rattle.teco_scan.specs.Lists.{list_at}
 use Rattle.teco_check.specs.Clean.{is_clean}
@@ -37,12 +36,12 @@ invariant-check_list-loop-code l = record {
   past : l.fn.at ≤ l.next;
   inside : l.next ≤ length l.text;
   starts : l.starts ≡ set l.fn.around l.fn.depth l.fn.at;
-  clean : (lists : List Nodes) → AreOpen l.text l.starts (l.depth + 1) lists
-      → is_clean (held l.look.code.now) (may_hold l.look.texts l.look.code.now) lists (list_at Named l.kind l.depth (drop l.next l.text)).0 ≡ is_clean (held l.look.code.now) (may_hold l.look.texts l.look.code.now) lists (list_at Named l.kind l.depth (drop l.fn.at l.text)).0;
-  first : (os : List OpenList) → length os ≡ l.depth → BeginThere l.text l.fn.around os
-      → check_walk (rule l.look.texts l.look.code.now) l.text (record { kind = l.kind; opening = l.opening; start = l.fn.at }) os (drop l.next l.text)
-      ≡ check_walk (rule l.look.texts l.look.code.now) l.text (record { kind = l.kind; opening = l.opening; start = l.fn.at }) os (drop l.fn.at l.text);
-  closes : (list_at Named l.kind l.depth (drop l.next l.text)).1 ≡ (list_at Named l.kind l.depth (drop l.fn.at l.text)).1;
+  clean : (lists : List Nodes) → AreOpen l.look.profile l.text l.starts (l.depth + 1) lists
+      → is_clean (held l.look.code.now) (may_hold l.look.profile l.look.texts l.look.code.now) lists (list_at l.look.profile l.kind l.depth (drop l.next l.text)).0 ≡ is_clean (held l.look.code.now) (may_hold l.look.profile l.look.texts l.look.code.now) lists (list_at l.look.profile l.kind l.depth (drop l.fn.at l.text)).0;
+  first : (os : List OpenList) → length os ≡ l.depth → BeginThere l.look.profile l.text l.fn.around os
+      → check_walk l.look.profile (rule l.look.profile l.look.texts l.look.code.now) l.text (record { kind = l.kind; opening = l.opening; start = l.fn.at }) os (drop l.next l.text)
+      ≡ check_walk l.look.profile (rule l.look.profile l.look.texts l.look.code.now) l.text (record { kind = l.kind; opening = l.opening; start = l.fn.at }) os (drop l.fn.at l.text);
+  closes : (list_at l.look.profile l.kind l.depth (drop l.next l.text)).1 ≡ (list_at l.look.profile l.kind l.depth (drop l.fn.at l.text)).1;
 }
 
 abbrev pub decreases-check_list-loop-code : goal.decreases-check_list-loop-code

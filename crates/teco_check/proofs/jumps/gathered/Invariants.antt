@@ -1,7 +1,6 @@
 use Rattle.std.proofs.Common.{◌≡◌, ◌≤◌, ◌+◌, ◌-◌, length}
 use Rattle.teco_core.specs.declared.limits.TheConstants.{BLOCK_LIMIT}
 use Rattle.teco_check.specs.Checked.{AreInside}
-use Rattle.teco_core.specs.declared.profile.Profile.TheVariants.{Named}
 use Rattle.teco_check.proofs.jumps.gathered.Given as goal
 
 -- the lists that are open begin in the text
@@ -11,7 +10,7 @@ invariant-gathering l = record {
   deep : l.depth ≤ BLOCK_LIMIT;
   begun : AreInside l.text l.starts (l.depth + 1);
   text : l.tags.bytes.now ≡ l.text;
-  named : l.tags.profile ≡ Named;
+  profile : l.tags.profile ≡ l.profile;
 }
 
 abbrev pub decreases-gathering : goal.decreases-gathering

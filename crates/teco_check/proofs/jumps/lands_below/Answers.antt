@@ -1,18 +1,16 @@
-use Rattle.std.proofs.Common.{◌-◌, drop, ap, sym, ◌∙◌, arith}
-use Rattle.std.specs.Prelude.{slice_index}
-use Rattle.teco_scan.specs.Lists.{tag_at}
+use Rattle.std.proofs.Common.{sym, ◌∙◌, arith}
 use Rattle.teco_check.proofs.Open.{below_some, below_none, below_zero}
 use Rattle.teco_check.proofs.jumps.lands_below.Goals as goal
 
 pub returns-then-is_some : goal.returns-then-is_some
 returns-then-is_some c =
-    sym (below_some c.args.tags.now.bytes.now c.args.starts.now c.loop-below.below c.args.name.now c.find.result c.loop-below-test.true (c.find.ensures.finds ∙ ap (λ p. tag_at p c.args.name.now (c.loop-below.below - 1) (drop (slice_index c.args.starts.now (c.loop-below.below - 1)) c.args.tags.now.bytes.now)) c.requires.named) (sym c.is_some.ensures ∙ c.if-is_some.true)) ∙ c.loop-below.invariant.same
+    sym (below_some c.args.tags.now.profile c.args.tags.now.bytes.now c.args.starts.now c.loop-below.below c.args.name.now c.find.result c.loop-below-test.true c.find.ensures.finds (sym c.is_some.ensures ∙ c.if-is_some.true)) ∙ c.loop-below.invariant.same
 
 pub loop-below-preserved : goal.loop-below-preserved
 loop-below-preserved c = record {
   few = omega (arith, c.loop-below.invariant.few);
-  same = sym (below_none c.args.tags.now.bytes.now c.args.starts.now c.loop-below.below c.args.name.now c.find.result c.loop-below-test.true (c.find.ensures.finds ∙ ap (λ p. tag_at p c.args.name.now (c.loop-below.below - 1) (drop (slice_index c.args.starts.now (c.loop-below.below - 1)) c.args.tags.now.bytes.now)) c.requires.named) (sym c.is_some.ensures ∙ c.if-is_some.false)) ∙ c.loop-below.invariant.same;
+  same = sym (below_none c.args.tags.now.profile c.args.tags.now.bytes.now c.args.starts.now c.loop-below.below c.args.name.now c.find.result c.loop-below-test.true c.find.ensures.finds (sym c.is_some.ensures ∙ c.if-is_some.false)) ∙ c.loop-below.invariant.same;
 }
 
 pub returns : goal.returns
-returns c = below_zero c.args.tags.now.bytes.now c.args.starts.now c.loop-below.below c.args.name.now c.loop-below-test.false ∙ c.loop-below.invariant.same
+returns c = below_zero c.args.tags.now.profile c.args.tags.now.bytes.now c.args.starts.now c.loop-below.below c.args.name.now c.loop-below-test.false ∙ c.loop-below.invariant.same

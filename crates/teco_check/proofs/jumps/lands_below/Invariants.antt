@@ -5,7 +5,7 @@ use Rattle.teco_check.proofs.jumps.lands_below.Given as goal
 abbrev pub invariant-loop-below : goal.invariant-loop-below
 invariant-loop-below l = record {
   few : l.below ≤ l.count;
-  same : lands_below l.tags.bytes.now l.starts l.below l.name ≡ lands_below l.tags.bytes.now l.starts l.count l.name;
+  same : lands_below l.tags.profile l.tags.bytes.now l.starts l.below l.name ≡ lands_below l.tags.profile l.tags.bytes.now l.starts l.count l.name;
 }
 
 -- proposed from the loop's first test

@@ -1,7 +1,6 @@
 use Rattle.std.proofs.Common.{◌≤◌, ◌∙◌, ap, arith, length, subst, sym}
 use Rattle.teco_journal.specs.Events.{events_of}
 use Rattle.teco_journal.specs.Heads.{beginning_in}
-use Rattle.teco_store.specs.State.{paged_beginning}
 use Rattle.teco_session.specs.History.{History}
 use Rattle.teco_debugger.specs.Kept.{cursor_at}
 use Rattle.teco_debugger.proofs.KeptStrings.{told_depth, told_first}
@@ -15,10 +14,9 @@ on_to-requires-clause-before c = subst (λ (h : History). h.cursor ≤ c.args.i)
 
 pub over-requires-clause-first : goal.over-requires-clause-first
 over-requires-clause-first c =
-    let input = c.in_ok-input.ensures.items in
     ap (λ (h : History). h.first) (c.on_to.ensures ∙ ap (λ h. cursor_at h c.args.i) c.back_to.ensures.2 ∙ ap (λ h. cursor_at h c.args.i) c.requires.history)
     ∙ told_first (beginning_in c.args.file.now.start) (events_of c.args.file.now.journal.records.items)
-    ∙ ap (paged_beginning c.args.file.now.start.lines) (sym input)
+    ∙ sym c.in_ok-opening.ensures.first
 
 pub over-requires-clause-depth : goal.over-requires-clause-depth
 over-requires-clause-depth c =

@@ -37,7 +37,7 @@ returns-in_ok-given-in-Sources-clause-begins g c =
     let line = c.args.line.now in
     let word = c.in-Sources.word in
     let given = c.in_ok-given-in-Sources.given in
-    over_sources files (g.D.Disk.seen c.string_of_sources.new.disk).files line.origin c.in-Sources.names word line.input given c.begun_with.result c.in-Sources.is
+    over_sources line.profile files (g.D.Disk.seen c.string_of_sources.new.disk).files line.origin c.in-Sources.names word line.input given c.begun_with.result c.in-Sources.is
     c.string_of_sources.ensures.keeps.files
     (subst (λ names. IsOfSources files names (option_map string_bytes word) given) c.deref.ensures.value c.in_ok-given-in-Sources.ensures.string)
     c.begun_with.ensures.walk
@@ -52,7 +52,7 @@ returns-in_ok-given-in-Bytes-clause-begins g c =
     let files = (g.D.Disk.seen c.args.disk.now).files in
     let line = c.args.line.now in
     let given = c.in_ok-given-in-Bytes.given in
-    over_bytes files (g.D.Disk.seen c.string_of_bytes.new.disk).files line.origin c.in-Bytes.name line.input given c.begun_with-in-Bytes.result c.in-Bytes.is
+    over_bytes line.profile files (g.D.Disk.seen c.string_of_bytes.new.disk).files line.origin c.in-Bytes.name line.input given c.begun_with-in-Bytes.result c.in-Bytes.is
     c.string_of_bytes.ensures.keeps.files
     (subst (λ name. IsOfBytes files name given) c.as_str.ensures.value c.in_ok-given-in-Bytes.ensures.string)
     c.begun_with-in-Bytes.ensures.walk

@@ -9,7 +9,7 @@ use Rattle.teco_driver.proofs.verdict.verdict_on_registers.Given as goal
 
 abbrev pub invariant-registers : goal.invariant-registers
 invariant-registers l = record {
-  faulty : l.is_faulty ≡ holds_wrong l.index (has_fault l.code) l.code l.first;
-  misspelt : l.is_misspelt ≡ holds_wrong l.index (is_misspelt_text l.code) l.code l.first;
-  right : l.is_faulty ≡ false → (q : ℕ) → q < l.index → held l.code q ≡ true → IsClean (held l.code) (content l.first q).text;
+  faulty : l.is_faulty ≡ holds_wrong l.index (has_fault l.profile l.code) l.code l.first;
+  misspelt : l.is_misspelt ≡ holds_wrong l.index (is_misspelt_text l.profile l.code) l.code l.first;
+  right : l.is_faulty ≡ false → (q : ℕ) → q < l.index → held l.code q ≡ true → IsClean l.profile (held l.code) (content l.first q).text;
 }

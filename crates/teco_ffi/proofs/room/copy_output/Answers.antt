@@ -1,4 +1,4 @@
-use Rattle.std.proofs.Common.{◌≡◌, ◌∙◌, ◌+◌, ◌-◌, ◌++◌, ap, append_assoc, arith, drop, length, length-append, length-drop, min, refl, sym, take, List, [], ℕ}
+use Rattle.std.proofs.Common.{◌≡◌, ◌∙◌, ◌-◌, ◌++◌, ap, append_assoc, arith, drop, length, length-append, length-drop, min, refl, sym, take, List, [], ℕ}
 use Rattle.std.proofs.lemmas.List.{append-nil, drop_all}
 use Rattle.teco_ffi.specs.Rooms.{filled}
 use Rattle.teco_store.specs.Slices.{bytes_in}

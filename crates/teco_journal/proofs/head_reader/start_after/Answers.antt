@@ -1,3 +1,4 @@
+use Rattle.std.proofs.Common.{refl}
 use Rattle.std.proofs.lemmas.Result.{err_from_is_err_and}
 use Rattle.teco_journal.proofs.Cuts.{failed}
 use Rattle.teco_journal.proofs.HeadParts.{fails_at_lines, fails_at_depth, fails_at_input, start_found}
@@ -21,7 +22,8 @@ returns-in_err-input c =
 
 pub returns : goal.returns
 returns c = (
+  refl,
   (c.in_ok-lines.ensures.0, c.in_ok-depth.ensures.0, c.in_ok-input.ensures.0),
-  start_found c.args.bytes.now c.in_ok-lines.rest.now c.in_ok-depth.rest.now c.in_ok-input.rest.now c.in_ok-input.input.now c.in_ok-lines.lines c.in_ok-depth.depth
+  start_found c.args.profile c.args.bytes.now c.in_ok-lines.rest.now c.in_ok-depth.rest.now c.in_ok-input.rest.now c.in_ok-input.input.now c.in_ok-lines.lines c.in_ok-depth.depth
       c.in_ok-lines.ensures.1 c.in_ok-depth.ensures.1 c.in_ok-input.ensures.1,
 )

@@ -10,12 +10,12 @@ use Rattle.teco_lint.proofs.checking.check_over.Given as goal
 abbrev pub invariant-loop-end : goal.invariant-loop-end
 invariant-loop-end l = record {
   inside : l.start ≤ length l.commands;
-  so_far : is_faulty l.registers.called l.commands
-      ≡ (l.faulty || list_any (is_faulty_string l.registers.called) (strings_of (drop l.start l.commands)));
-  right : l.faulty ≡ false → AllByRecursion (IsRightString l.registers.called) (strings_of (drop l.start l.commands))
-      → AllByRecursion (IsRightString l.registers.called) (strings_of l.commands);
+  so_far : is_faulty l.profile l.registers.called l.commands
+      ≡ (l.faulty || list_any (is_faulty_string l.profile l.registers.called) (strings_of (drop l.start l.commands)));
+  right : l.faulty ≡ false → AllByRecursion (IsRightString l.profile l.registers.called) (strings_of (drop l.start l.commands))
+      → AllByRecursion (IsRightString l.profile l.registers.called) (strings_of l.commands);
   told : (later : List Remark) → ((test : Remark → Bool) → IsTold test l.remarks.items → IsTold test later)
-      → AreTold l.registers.called later l.start (strings_of (drop l.start l.commands)) → AreTold l.registers.called later 0 (strings_of l.commands);
+      → AreTold l.profile l.registers.called later l.start (strings_of (drop l.start l.commands)) → AreTold l.profile l.registers.called later 0 (strings_of l.commands);
 }
 
 abbrev pub decreases-loop-end : goal.decreases-loop-end

@@ -10,7 +10,7 @@ loop-end-preserved c =
     record {
       inside = omega (arith, c.in-Some.ensures.inside.1);
       so_far = c.loop-end.invariant.so_far
-          ∙ one_more (is_misspelt_string c.args.code.now) c.loop-end.misspelt c.is_misspelt_string-misspelt.result
+          ∙ one_more (is_misspelt_string c.args.profile c.args.code.now) c.loop-end.misspelt c.is_misspelt_string-misspelt.result
           (take (c.in-Some.end - c.loop-end.start) (drop c.loop-end.start commands)) (strings_of (drop (c.in-Some.end + 1) commands))
           (strings_of (drop c.loop-end.start commands)) c.in-Some.ensures.cuts c.is_misspelt_string-misspelt.ensures;
     }
@@ -19,6 +19,6 @@ pub returns : goal.returns
 returns c =
     let commands = c.args.commands.now in
     sym (c.loop-end.invariant.so_far
-    ∙ last_one (is_misspelt_string c.args.code.now) c.loop-end.misspelt c.is_misspelt_string.result
+    ∙ last_one (is_misspelt_string c.args.profile c.args.code.now) c.loop-end.misspelt c.is_misspelt_string.result
     (drop c.loop-end.start commands) (strings_of (drop c.loop-end.start commands)) c.in_default.ensures.last
-    (c.is_misspelt_string.ensures ∙ ap (is_misspelt_string c.args.code.now) (whole_held c.loop-end.start (length commands) commands (omega arith))))
+    (c.is_misspelt_string.ensures ∙ ap (is_misspelt_string c.args.profile c.args.code.now) (whole_held c.loop-end.start (length commands) commands (omega arith))))

@@ -7,8 +7,8 @@ use Rattle.teco_lint.proofs.spelling.is_misspelt.Given as goal
 abbrev pub invariant-loop-end : goal.invariant-loop-end
 invariant-loop-end l = record {
   inside : l.start ≤ length l.commands;
-  so_far : is_misspelt l.code l.commands
-      ≡ (l.misspelt || list_any (is_misspelt_string l.code) (strings_of (drop l.start l.commands)));
+  so_far : is_misspelt l.profile l.code l.commands
+      ≡ (l.misspelt || list_any (is_misspelt_string l.profile l.code) (strings_of (drop l.start l.commands)));
 }
 
 abbrev pub decreases-loop-end : goal.decreases-loop-end

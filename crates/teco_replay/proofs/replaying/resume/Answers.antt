@@ -1,7 +1,8 @@
 use Rattle.std.proofs.Common.{◌≡◌, List, Err, sym, ap, ◌∙◌, subst}
-use Rattle.teco_session.specs.History.{History, new_paged_history}
+use Rattle.teco_session.specs.History.{History}
 use Rattle.teco_session.specs.Kept.{history_of}
 use Rattle.teco_journal.specs.Events.{Event}
+use Rattle.teco_replay.specs.Begun.{begun_history}
 use Rattle.teco_replay.specs.Told.{AllHappen, after_events}
 use Rattle.teco_replay.specs.declared.replaying.ReplayFault.TheVariants.{Wrong}
 use Rattle.teco_replay.proofs.replaying.resume.Goals as goal
@@ -26,4 +27,4 @@ pub returns-in-Err-clause-only : goal.returns-in-Err-clause-only
 returns-in-Err-clause-only g c =
     λ deeds lived did are is.
     let wrong : c.in-Err.fault ≡ Wrong = cc in
-    c.in-Err.ensures.possible (happen_again (history_of c.in-Ok.session) (new_paged_history c.args.lines c.args.depth c.args.input.items) _ _ c.in-Ok.ensures.history are (c.replay_laws.ensures.happen _ lived deeds did)) (ap Err wrong)
+    c.in-Err.ensures.possible (happen_again (history_of c.in-Ok.session) (begun_history c.args.profile c.args.lines c.args.depth c.args.input.items) _ _ c.in-Ok.ensures.history are (c.replay_laws.ensures.happen _ lived deeds did)) (ap Err wrong)

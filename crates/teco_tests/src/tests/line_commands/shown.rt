@@ -24,7 +24,8 @@ pub(crate) const ROWS: &str = "
         --undo <N>           The most command strings kept to be undone, at most 100000; all without it\n      \
         --prompt             Prints * where a command string is awaited\n      \
         --explain            Explains each error, and with --prompt what was done, on standard error\n  \
-        -q, --quiet              Says nothing on standard error of how a run ends; the status stays\n  \
+        -q, --quiet              Says nothing on standard error of how a run ends; the status stays\n      \
+        --wide               Reads the commands in the wider language of old macros\n  \
         -h, --help               Print help\n  \
         -V, --version            Print version\n\n\
         Commands are read from standard input where no option gives them, and what they print goes to standard\n\

@@ -66,11 +66,11 @@ pub(super) const FAULTS: &str = "
     - // Ten digits ask no undo.
     - 1234567890{$$ => -:1:11: ILL: no command begins with {\n
     - // What TECO-11 has besides, with the operands that it takes.
-    - Y 1\"=J' {$$ => -:1:4: IQC: \"= of TECO-11 is left out: it tests for 0; here: \"E\n-:1:9: ILL: no command begins with {\n
-    - :XA {$$ => -:1:1: ILL: :X of TECO-11 is left out: it appends lines to a register; here: Gq and Xq over both\n-:1:5: ILL: no command begins with {\n
+    - Y 1\"=J' {$$ => -:1:4: IQC: \"= of TECO-11 is left out: it tests for 0; here: --wide, or \"E\n-:1:9: ILL: no command begins with {\n
+    - :XA {$$ => -:1:1: ILL: :X of TECO-11 is left out: it appends lines to a register; here: --wide, or Gq and Xq over both\n-:1:5: ILL: no command begins with {\n
     - ERfile>$ {$$ => -:1:1: ILL: ER of TECO-11 is left out: it opens an input file; here: give it as INPUT on the command line\n-:1:10: ILL: no command begins with {\n
     - f_a>$b>$ {$$ => -:1:1: ILL: F_ of TECO-11 is left out: it replaces, and drops the pages; here: <:Sone$\"S0;' HK ^N\"NSone$' Y> and then -nD Itwo$\n-:1:10: ILL: no command begins with {\n
-    - :^UAa>$ {$$ => -:1:1: ILL: :^U of TECO-11 is left out: it appends a text to a register; here: Gq, the text by I, and Xq over both\n-:1:9: ILL: no command begins with {\n
+    - :^UAa>$ {$$ => -:1:1: ILL: :^U of TECO-11 is left out: it appends a text to a register; here: --wide, or Gq, the text by I, and Xq over both\n-:1:9: ILL: no command begins with {\n
     - ::FSa>$b>$ {$$ => -:1:1: ILL: ::FS of TECO-11 is left out: it replaces the text at the pointer; here: ::Sone$\"S -nD Itwo$'\n-:1:12: ILL: no command begins with {\n
     - Y :EBfile>$\"U1=' {$$ => -:1:3: ILL: EB of TECO-11 is left out: it opens a file to edit it; here: give it as INPUT with --in-place, which keeps no .BAK\n-:1:18: ILL: no command begins with {\n
     - EQAfile>$ {$$ => -:1:1: ILL: EQ of TECO-11 is left out: it reads a file into a register; here: its text by @^Uq/../\n-:1:11: ILL: no command begins with {\n
@@ -93,6 +93,18 @@ pub(super) const HINTS: &str = "
     - YJS^~ED$EX$$ => -:1:3: hint: a caret in a search text is a caret, and no control byte\n
     - Y@FS/^~Q+/x/EX$$ => -:1:2: hint: a caret in a search text is a caret, and no control byte\n
     - YS^ED$S^~+$I^~A$EX$$ =>\x20
+    - // A form that is left out, by the numbers that are spelled before it; and where it isn't known what comes before, nothing.
+    - Y5Q1=EX$$ => -:1:3: hint: nQ of TECO-11 is left out: it gives the code of byte n of a text; here: Gq, and nA where it stands\n
+    - Y1,2UAEX$$ => -:1:5: hint: m,nU of TECO-11 is left out: it sets n, and gives m; here: nUq, and mUr\n
+    - Y^TUAEX$$ => -:1:2: hint: ^T alone of TECO-11 is left out: it reads a byte of the terminal; here: nothing\n
+    - Y3VHVEX$$ => -:1:3: hint: nV of TECO-11 is left out: it types lines on each side; here: 1-nT nT\n-:1:5: hint: nV of TECO-11 is left out: it types lines on each side; here: 1-nT nT\n
+    - Y2PWEX$$ => -:1:3: hint: nPW of TECO-11 is left out: it writes the page n times; here: n<PW>\n
+    - YB^UAx$EX$$ => -:1:3: hint: n^U of TECO-11 is left out: it puts a byte into a register; here: nI$ and .-1,.Xq\n
+    - Y1,Q1Sx$EX$$ => -:1:6: hint: m,nS of TECO-11 is left out: it looks for a text that begins within a bound; here: :Stext$ and a test of .\n
+    - Y^X=EX$$ => -:1:2: hint: ^X alone of TECO-11 is left out: it gives whether searches tell the cases apart; here: a register that says it\n
+    - Y5+Q1=-Q1=(5)V0A^T1,2K3$Q1=!a!VEX$$ =>\x20
+    - // A search text that no search reads.
+    - YS^EQA$FS^E$a$EX$$ => -:1:2: hint: no search reads this text, which is ICE\n-:1:8: hint: no search reads this text, which is ICE\n
     - Y2Oa$!a!EX$$ => -:1:3: hint: nO of TECO-11 is left out: it chooses a tag by a number; here: a test before each jump\n
     - YMAMAMBEX$$ => -:1:2: hint: A is called, and nothing puts a text into it\n-:1:6: hint: B is called, and nothing puts a text into it\n
     - Y@^UA/J/MAEX$$ =>\x20
@@ -118,3 +130,20 @@ pub(super) const HINTS: &str = "
 pub(super) const BYTES: &str = "
     - Y\nEX>\x1b\x1b => -:2:3: BNI: > has no <\n
     - 0\"NJ\x1b\x1b => -:1:2: UTC: \"N has no '\n";
+
+/// A source in the wide language with a fault, and the lines that tell of it.
+pub(super) const WIDE_FAULTS: &str = "
+    - Y:X?$$ => -:1:2: IQN: after :X comes a register, A to Z or 0 to 9\n
+    - Y1\"?2'$$ => -:1:3: IQC: after \" comes a letter of E F U N G L S T A D R V W, or = < >\n
+    - Y::XA$$ => -:1:2: ILL: X takes no two colons\n
+    - Y0\"=:XAFRx$' {$$ => -:1:8: ILL: FR of TECO-11 is left out: it replaces what was found or put in last; here: FSone$two$ at the search itself\n-:1:14: ILL: no command begins with {\n
+    - // A text that is put where code is, and a text that goes behind it.
+    - @^UA/0\"=Q?'/MA$$ => -:1:9: IQN: after Q comes a register, A to Z or 0 to 9\n
+    - @^UA/1=/:@^UA/2=/MA$$ => -:1:9: not checked: :@^UA/2=/ puts what no check can see into a register that is called\n";
+
+/// Bytes of the wide language without a fault, and the hints on them.
+pub(super) const WIDE_BYTES: &str = "
+    - Y0\"=1='2<:;>:XAEX\x1b\x1b =>\x20
+    - YJ<Sfoo\x1b;0L:XAL>HKGAEX\x1b\x1b =>\x20
+    - @^UA/0\"=1='/YMAEX\x1b\x1b =>\x20
+    - Y:;EX\x1b\x1b => -:1:2: hint: ; is in no iteration of this text, which is SNI\n";

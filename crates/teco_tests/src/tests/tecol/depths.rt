@@ -1,8 +1,9 @@
 //! How many texts in one another a check looks into.
 use crate::tests::assert_of;
+use crate::tests::bytes::named_text;
 use std::alloc::Global;
 use std::test::*;
-use teco_core::NoMemory;
+use teco_core::{NoMemory, Profile};
 use teco_lint::{check, report};
 
 /// Commands with so many texts in one another, each within as many blocks as may be open, and the last with these commands.
@@ -45,8 +46,15 @@ static ROWS: [(u8, &[u8], &str); 5] = [
 /// Whether a row is told so.
 fn is_told(alloc: Global, row: &(u8, &[u8], &str)) -> Result<bool, NoMemory> {
     let commands = nested(alloc, row.0, row.1)?;
-    let advice = check(alloc, &commands)?;
-    let lines = report(alloc, "-", &commands, None, &commands, &advice.remarks)?;
+    let advice = check(alloc, Profile::Named, &commands)?;
+    let lines = report(
+        alloc,
+        "-",
+        &commands,
+        None,
+        named_text(&commands),
+        &advice.remarks,
+    )?;
     Ok(lines.as_bytes() == row.2.as_bytes() && advice.is_faulty != row.2.is_empty())
 }
 

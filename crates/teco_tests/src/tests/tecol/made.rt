@@ -4,7 +4,7 @@ use crate::tests::bytes::are;
 use crate::tests::rows::{Rule, all_hold, halves_at, number_or};
 use std::alloc::Global;
 use std::test::*;
-use teco_core::NoMemory;
+use teco_core::{NoMemory, Profile};
 use tecol_driver::{Made, TecolLine, TecolMode, make};
 
 /// What a row holds of.
@@ -18,9 +18,9 @@ enum Wanted {
     Unreadable,
 }
 
-/// What is made, whether the words of each command are beside it, and what a row holds of: an input, and what is made of it.
+/// What is made, whether the words of each command are beside it, what a row holds of, and the language. A row is an input, and what is made of it.
 #[derive(Clone, Copy)]
-struct Makes(TecolMode, bool, Wanted);
+struct Makes(TecolMode, bool, Wanted, Profile);
 
 impl Makes {
     /// What a line of this mode makes of an input.
@@ -29,6 +29,7 @@ impl Makes {
             input: String::from_str(alloc, "-")?,
             output: String::from_str(alloc, "-")?,
             mode: self.0,
+            profile: self.3,
             words: self.1,
         };
         make(alloc, &line, input.as_bytes())
@@ -48,36 +49,62 @@ impl Rule for Makes {
     }
 }
 
+fn in_named(mode: TecolMode, words: bool, wanted: Wanted) -> Makes {
+    Makes(mode, words, wanted, Profile::Named)
+}
+
+fn in_wide(mode: TecolMode, words: bool, wanted: Wanted) -> Makes {
+    Makes(mode, words, wanted, Profile::Wide)
+}
+
 /// The tables. Past the last there are no rows. An array of them would cost the proof more.
 fn table(at: usize) -> (Makes, &'static str) {
     match at {
         0 => (
-            Makes(TecolMode::CheckSource, false, Wanted::Faulty),
+            in_named(TecolMode::CheckSource, false, Wanted::Faulty),
             checks::FAULTS,
         ),
         1 => (
-            Makes(TecolMode::CheckSource, false, Wanted::Fine),
+            in_named(TecolMode::CheckSource, false, Wanted::Fine),
             checks::HINTS,
         ),
         2 => (
-            Makes(TecolMode::CheckBytes, false, Wanted::Faulty),
+            in_named(TecolMode::CheckBytes, false, Wanted::Faulty),
             checks::BYTES,
         ),
         3 => (
-            Makes(TecolMode::Listing, false, Wanted::Fine),
+            in_named(TecolMode::Listing, false, Wanted::Fine),
             listings::LISTED,
         ),
         4 => (
-            Makes(TecolMode::Listing, true, Wanted::Fine),
+            in_named(TecolMode::Listing, true, Wanted::Fine),
             listings::WORDED,
         ),
-        5 => (Makes(TecolMode::Again, true, Wanted::Fine), listings::AGAIN),
-        6 => (Makes(TecolMode::Bytes, false, Wanted::Fine), sources::READ),
+        5 => (
+            in_named(TecolMode::Again, true, Wanted::Fine),
+            listings::AGAIN,
+        ),
+        6 => (
+            in_named(TecolMode::Bytes, false, Wanted::Fine),
+            sources::READ,
+        ),
         7 => (
-            Makes(TecolMode::Bytes, false, Wanted::Unreadable),
+            in_named(TecolMode::Bytes, false, Wanted::Unreadable),
             sources::UNREADABLE,
         ),
-        _ => (Makes(TecolMode::Bytes, false, Wanted::Fine), ""),
+        8 => (
+            in_wide(TecolMode::CheckSource, false, Wanted::Faulty),
+            checks::WIDE_FAULTS,
+        ),
+        9 => (
+            in_wide(TecolMode::CheckBytes, false, Wanted::Fine),
+            checks::WIDE_BYTES,
+        ),
+        10 => (
+            in_wide(TecolMode::Listing, true, Wanted::Fine),
+            listings::WIDE_WORDED,
+        ),
+        _ => (in_named(TecolMode::Bytes, false, Wanted::Fine), ""),
     }
 }
 

@@ -1,10 +1,10 @@
 //! Sentences that a check tells of large commands alone.
 use crate::tests::assert_of;
-use crate::tests::bytes::{has, is};
+use crate::tests::bytes::{has, is, named_text};
 use std::alloc::Global;
 use std::test::*;
 use teco_check::Wrong;
-use teco_core::NoMemory;
+use teco_core::{NoMemory, Profile};
 use teco_lint::{FaultIn, Remark, What, check, report, show_remark};
 use teco_scan::Span;
 
@@ -39,7 +39,7 @@ fn is_told(alloc: Global, row: &(&str, Wrong, &str)) -> bool {
         what: What::Fault(fault),
     };
     let mut out = String::new(alloc);
-    show_remark(&mut out, text.as_bytes(), &remark, None).is_ok() && is(&out, sentence)
+    show_remark(&mut out, named_text(text.as_bytes()), &remark, None).is_ok() && is(&out, sentence)
 }
 
 /// What is told at the end of 1,001 semicolons outside of an iteration: a thousand remarks, and that there are more.
@@ -52,8 +52,15 @@ const END: &str = "
 fn ends_there(alloc: Global) -> Result<bool, NoMemory> {
     let mut commands = Vec::new(alloc);
     commands.resize(1001, b';')?;
-    let advice = check(alloc, &commands)?;
-    let lines = report(alloc, "-", &commands, None, &commands, &advice.remarks)?;
+    let advice = check(alloc, Profile::Named, &commands)?;
+    let lines = report(
+        alloc,
+        "-",
+        &commands,
+        None,
+        named_text(&commands),
+        &advice.remarks,
+    )?;
     Ok(has(&lines, END))
 }
 

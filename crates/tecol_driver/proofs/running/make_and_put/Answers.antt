@@ -12,7 +12,7 @@ pub returns-in-Ok : goal.returns-in-Ok
 returns-in-Ok g c =
     let seen = disk_seen g.D.Disk g.D.Input.Source in
     let output = output_of g.T.Terminal.screen c.args.line.now (seen c.args.disk.now) (seen c.put.new.disk) c.args.term.now c.put.new.term in
-    let is_made = IsMade c.args.line.now.mode c.args.input.now in
+    let is_made = IsMade c.args.line.now.profile c.args.line.now.mode c.args.input.now in
     let made = c.match-make-2.bytes in
     let chosen : Chosen is_made made = elim c.match-make-2.branch [
       | in-Ok-Fine w ↦ subst (Chosen is_made) (sym w.bytes-is) (inl (search rules, refl))
@@ -25,7 +25,7 @@ returns g c =
     let seen = disk_seen g.D.Disk g.D.Input.Source in
     let output = output_of g.T.Terminal.screen c.args.line.now (seen c.args.disk.now) (seen c.put.new.disk) c.args.term.now c.put.new.term in
     let name = string_bytes c.args.line.now.output in
-    let is_made = IsMade c.args.line.now.mode c.args.input.now in
+    let is_made = IsMade c.args.line.now.profile c.args.line.now.mode c.args.input.now in
     let made = c.match-make-2.bytes in
     let chosen : Chosen is_made made = elim c.match-make-2.branch [
       | in-Ok-Fine w ↦ subst (Chosen is_made) (sym w.bytes-is) (inl (search rules, refl))

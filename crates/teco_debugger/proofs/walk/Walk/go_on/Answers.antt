@@ -1,8 +1,8 @@
 use Rattle.std.proofs.Common.{◌≡◌, ap, false, refl, sym, ◌∙◌, subst}
 use Rattle.teco_session.specs.Kept.{history_of}
 use Rattle.teco_session.specs.History.{undone}
-use Rattle.teco_debugger.specs.Walk.{KeptWalk, SameString, after_all, base, before_last, kept_walk, lacks_memory, meant, walked}
-use Rattle.teco_store.specs.State.{State, paged_beginning}
+use Rattle.teco_debugger.specs.Walk.{KeptWalk, SameString, after_all, base, before_last, kept_walk, lacks_memory, meant, walk_first, walked}
+use Rattle.teco_store.specs.State.{State}
 use Rattle.teco_debugger.proofs.Walked.{before_is, is_walked}
 use Rattle.teco_debugger.proofs.WalkEnds.{ran_on, ran_state, ran_steps, ran_within}
 use Rattle.teco_debugger.proofs.Returning.{came_again, gone_back, stays_unended}
@@ -11,7 +11,7 @@ use Rattle.teco_debugger.proofs.walk.Walk.go_on.Goals as goal
 pub invariant_of-self : goal.invariant_of-self
 invariant_of-self c =
     let walk = c.self.inside in
-    let first : State = paged_beginning walk.lines walk.input.items in
+    let first : State = walk_first walk in
     let before = before_last (history_of walk.session) in
     let back : history_of c.undo.new.self ≡ undone (walked first before walk.text.items walk.steps) =
     gone_back c.undo.result first before walk.text.items walk.steps _ _ c.self.invariant.came c.undo.ensures.offers.1 c.undo.ensures.history in
@@ -23,7 +23,7 @@ invariant_of-self c =
 pub invariant_of-self-in-Ended : goal.invariant_of-self-in-Ended
 invariant_of-self-in-Ended c =
     let walk = c.self.inside in
-    let first : State = paged_beginning walk.lines walk.input.items in
+    let first : State = walk_first walk in
     let before = before_last (history_of walk.session) in
     let back : history_of c.undo.new.self ≡ undone (walked first before walk.text.items walk.steps) =
     gone_back c.undo.result first before walk.text.items walk.steps _ _ c.self.invariant.came c.undo.ensures.offers.1 c.undo.ensures.history in
@@ -35,7 +35,7 @@ invariant_of-self-in-Ended c =
 pub invariant_of-self-in_default : goal.invariant_of-self-in_default
 invariant_of-self-in_default c =
     let walk = c.self.inside in
-    let first : State = paged_beginning walk.lines walk.input.items in
+    let first : State = walk_first walk in
     let before = before_last (history_of walk.session) in
     record {
       small = c.self.invariant.small;
@@ -47,7 +47,7 @@ invariant_of-self-in_default c =
 pub returns-in-Ended-clause-string : goal.returns-in-Ended-clause-string
 returns-in-Ended-clause-string c =
     let walk = c.self.inside in
-    let first : State = paged_beginning walk.lines walk.input.items in
+    let first : State = walk_first walk in
     let before = before_last (history_of walk.session) in
     let back : history_of c.undo.new.self ≡ undone (walked first before walk.text.items walk.steps) =
     gone_back c.undo.result first before walk.text.items walk.steps _ _ c.self.invariant.came c.undo.ensures.offers.1 c.undo.ensures.history in
@@ -59,7 +59,7 @@ returns-in-Ended-clause-string c =
 pub returns-in-Ended-clause-state : goal.returns-in-Ended-clause-state
 returns-in-Ended-clause-state c =
     let walk = c.self.inside in
-    let first : State = paged_beginning walk.lines walk.input.items in
+    let first : State = walk_first walk in
     let before = before_last (history_of walk.session) in
     let back : history_of c.undo.new.self ≡ undone (walked first before walk.text.items walk.steps) =
     gone_back c.undo.result first before walk.text.items walk.steps _ _ c.self.invariant.came c.undo.ensures.offers.1 c.undo.ensures.history in
@@ -73,7 +73,7 @@ returns-in-Ended-clause-state c =
 pub returns-in-Ended-clause-steps : goal.returns-in-Ended-clause-steps
 returns-in-Ended-clause-steps c =
     let walk = c.self.inside in
-    let first : State = paged_beginning walk.lines walk.input.items in
+    let first : State = walk_first walk in
     let before = before_last (history_of walk.session) in
     let back : history_of c.undo.new.self ≡ undone (walked first before walk.text.items walk.steps) =
     gone_back c.undo.result first before walk.text.items walk.steps _ _ c.self.invariant.came c.undo.ensures.offers.1 c.undo.ensures.history in
@@ -84,7 +84,7 @@ returns-in-Ended-clause-steps c =
 pub returns-in-Ended-clause-never_too_far : goal.returns-in-Ended-clause-never_too_far
 returns-in-Ended-clause-never_too_far c =
     let walk = c.self.inside in
-    let first : State = paged_beginning walk.lines walk.input.items in
+    let first : State = walk_first walk in
     let before = before_last (history_of walk.session) in
     let back : history_of c.undo.new.self ≡ undone (walked first before walk.text.items walk.steps) =
     gone_back c.undo.result first before walk.text.items walk.steps _ _ c.self.invariant.came c.undo.ensures.offers.1 c.undo.ensures.history in
@@ -93,7 +93,7 @@ returns-in-Ended-clause-never_too_far c =
 pub returns-then-lacks_memory-clause-string : goal.returns-then-lacks_memory-clause-string
 returns-then-lacks_memory-clause-string c =
     let walk = c.self.inside in
-    let first : State = paged_beginning walk.lines walk.input.items in
+    let first : State = walk_first walk in
     let before = before_last (history_of walk.session) in
     let back : history_of c.undo.new.self ≡ undone (walked first before walk.text.items walk.steps) =
     gone_back c.undo.result first before walk.text.items walk.steps _ _ c.self.invariant.came c.undo.ensures.offers.1 c.undo.ensures.history in
@@ -105,7 +105,7 @@ returns-then-lacks_memory-clause-string c =
 pub returns-then-lacks_memory-clause-never_too_far : goal.returns-then-lacks_memory-clause-never_too_far
 returns-then-lacks_memory-clause-never_too_far c =
     let walk = c.self.inside in
-    let first : State = paged_beginning walk.lines walk.input.items in
+    let first : State = walk_first walk in
     let before = before_last (history_of walk.session) in
     let back : history_of c.undo.new.self ≡ undone (walked first before walk.text.items walk.steps) =
     gone_back c.undo.result first before walk.text.items walk.steps _ _ c.self.invariant.came c.undo.ensures.offers.1 c.undo.ensures.history in

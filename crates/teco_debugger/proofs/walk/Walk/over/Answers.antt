@@ -1,5 +1,6 @@
 use Rattle.std.proofs.Common.{◌≡◌, List, refl, subst, sym, take, arith}
-use Rattle.teco_store.specs.State.{State, paged_beginning}
+use Rattle.teco_replay.specs.Begun.{begun_state}
+use Rattle.teco_store.specs.State.{State}
 use Rattle.teco_session.specs.History.{History, NotedString}
 use Rattle.teco_session.specs.Kept.{history_of}
 use Rattle.teco_debugger.specs.Walk.{walked}
@@ -10,12 +11,13 @@ use Rattle.teco_debugger.proofs.walk.Walk.over.Goals as goal
 pub invariant_of-result : goal.invariant_of-result
 invariant_of-result c =
     let h : History = history_of c.args.session in
-    let first : State = paged_beginning c.args.lines c.args.input.items in
+    let o = c.args.opening in
+    let first : State = begun_state o.profile o.lines o.input.items in
     let before : List NotedString = take h.cursor h.notes in
     let came : history_of c.run.new.self ≡ walked h.first before c.args.text.items c.in-Ended.outcome.steps =
     began h _ c.args.text.items c.as_slice.result.now c.run.result c.in-Ended.outcome _ c.as_slice.ensures.value c.in-Ended.is c.run.ensures.step.1 c.requires.depth c.editor-leads.ensures.history.within in
     record {
-      small = omega (arith, c.requires.small, c.args.input.ok.0);
+      small = omega (arith, c.requires.small, o.input.ok.0);
       came = is_walked _ first before c.args.text.items c.in-Ended.outcome.steps
           (subst (λ (s : State). history_of c.run.new.self ≡ walked s before c.args.text.items c.in-Ended.outcome.steps) c.requires.first came);
     }

@@ -1,17 +1,22 @@
 use Rattle.std.proofs.Common.{◌≡◌, ◌∙◌, ◌-◌, None, ap, arith, length, subst, sym, take}
 use Rattle.std.proofs.Math.Seq.{take-length}
-use Rattle.teco_session.specs.History.{new_paged_history}
+use Rattle.teco_replay.specs.Begun.{begun_state}
+use Rattle.teco_session.specs.History.{history_from}
 use Rattle.teco_session.specs.Kept.{history_of}
-use Rattle.teco_debugger.specs.Walk.{KeptWalk, kept_walk, led}
+use Rattle.teco_debugger.specs.Walk.{KeptWalk, kept_walk, led, walk_first}
 use Rattle.teco_debugger.proofs.Walked.{before_length}
 use Rattle.teco_debugger.proofs.walk.Walk.session_before.Goals as goal
 
 pub loop-i-init : goal.loop-i-init
 loop-i-init c =
     let walk = c.self.inside in
-    let input = c.in_ok-input.ensures.items ∙ c.as_slice.ensures.value in
+    let w = walk.opening in
+    let o = c.in_ok-opening.opening in
+    let same = c.in_ok-opening.ensures in
+    let first : begun_state o.profile o.lines o.input.items ≡ walk_first walk =
+    ap (λ p. begun_state p o.lines o.input.items) same.profile ∙ ap (λ n. begun_state w.profile n o.input.items) same.lines ∙ ap (begun_state w.profile w.lines) same.input in
     subst (λ (v : KeptWalk). history_of c.in_ok-session.session ≡ led v.first (take 0 v.before)) c.self.view_is
-    (c.in_ok-session.ensures.history ∙ ap (new_paged_history walk.lines None) input)
+    (c.in_ok-session.ensures ∙ ap (history_from None) first)
 
 pub returns : goal.returns
 returns c =

@@ -11,7 +11,7 @@ decreases-note_token l = 2 * l.texts
 
 -- if what is left of the text is noted, all of it is
 abbrev pub invariant-note_text-loop-at : goal.invariant-note_text-loop-at
-invariant-note_text-loop-at l = (later : List Bool) → OfBytes (drop l.at l.text) l.self.called later → OfBytes l.text l.fn.self.called later
+invariant-note_text-loop-at l = (later : List Bool) → OfBytes l.profile (drop l.at l.text) l.self.called later → OfBytes l.profile l.text l.fn.self.called later
 
 abbrev pub decreases-note_text-loop-at : goal.decreases-note_text-loop-at
 decreases-note_text-loop-at l = length l.text - l.at

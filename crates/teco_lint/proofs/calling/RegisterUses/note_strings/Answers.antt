@@ -9,6 +9,6 @@ returns c =
     let rest = drop c.loop-end.start commands in
     let now = c.note_text-2.new.self.called in
     c.loop-end.invariant.rest now
-    (subst (λ (strings : List (List ℕ)). OfStrings strings c.loop-end.self.called now)
+    (subst (λ (strings : List (List ℕ)). OfStrings c.args.profile strings c.loop-end.self.called now)
     (sym (c.in_default.ensures.last ∙ ap (λ (s : List ℕ). s ∷ []) (sym (whole_held c.loop-end.start (length commands) commands (omega arith)))))
-    (last_noted (take (length commands - c.loop-end.start) rest) c.loop-end.self.called now c.note_text-2.ensures))
+    (last_noted c.args.profile (take (length commands - c.loop-end.start) rest) c.loop-end.self.called now c.note_text-2.ensures))

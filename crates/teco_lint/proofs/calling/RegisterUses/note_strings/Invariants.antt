@@ -7,8 +7,8 @@ use Rattle.teco_lint.proofs.calling.RegisterUses.note_strings.Given as goal
 abbrev pub invariant-loop-end : goal.invariant-loop-end
 invariant-loop-end l = record {
   inside : l.start ≤ length l.commands;
-  rest : (later : List Bool) → OfStrings (strings_of (drop l.start l.commands)) l.self.called later
-      → OfStrings (strings_of l.commands) l.fn.self.called later;
+  rest : (later : List Bool) → OfStrings l.profile (strings_of (drop l.start l.commands)) l.self.called later
+      → OfStrings l.profile (strings_of l.commands) l.fn.self.called later;
 }
 
 abbrev pub decreases-loop-end : goal.decreases-loop-end
