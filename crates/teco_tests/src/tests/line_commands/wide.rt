@@ -20,4 +20,22 @@ pub(crate) const ROWS: &str = "
     - // The file of a session tells it, and goes on in it; one that was begun without it doesn't become one of it.
     - teco --wide --session s in => YJ:XA\x1b\x1b => => => => 2 => in == hi\n => in == hi\n ++ s == teco session 1 wide\nlines 0\ndepth -\ninput 3\nhi\n\n65335eb4b3fd4230 begun\n86e908bd4066733a run 3 YJ:XA$\n
     - teco --session s in => J:XAHT\x1b\x1b => hi\n => => => 2 => in == hi\n ++ s == teco session 1 wide\nlines 0\ndepth -\ninput 3\nhi\n\n65335eb4b3fd4230 begun\n86e908bd4066733a run 3 YJ:XA$\n => in == hi\n ++ s == teco session 1 wide\nlines 0\ndepth -\ninput 3\nhi\n\n65335eb4b3fd4230 begun\n86e908bd4066733a run 3 YJ:XA$\n00790fd708f84494 run 4 J:XAHT$\n
-    - teco --wide --session s in => HT\x1b\x1b => => teco: s was begun with another --undo or --page-lines, or without --wide\n => => 1 => in == hi\n ++ s == teco session 1\nlines 0\ndepth -\ninput 3\nhi\n\n42412f66d299a6ec begun\ncf28ed40fc1c4ff6 run 1 Y$\n";
+    - teco --wide --session s in => HT\x1b\x1b => => teco: s was begun with another --undo or --page-lines, or without --wide\n => => 1 => in == hi\n ++ s == teco session 1\nlines 0\ndepth -\ninput 3\nhi\n\n42412f66d299a6ec begun\ncf28ed40fc1c4ff6 run 1 Y$\n
+    - // Old macros as they are: No files, and numbers.
+    - teco --wide in => \x01Hello, world!\x01\x1b\x1b => Hello, world! => => => 2 => in == hi\n
+    - teco --wide in => 0\"=1='-1\"<2='1\">3='\x1b\x1b => 1\r\n2\r\n3\r\n => => => 2 => in == hi\n
+    - teco --wide in => 3UN<QN:=\x01 bottles of beer\x0113^T10^T-1%N\x1b-QN;>\x1b\x1b => 3 bottles of beer\r\n2 bottles of beer\r\n1 bottles of beer\r\n => => => 2 => in == hi\n
+    - teco --wide in => @^UM/[0[1 5U0 6U1 Q0+Q1= ]1]0/1U0 2U1 MM Q0=Q1=\x1b\x1b => 11\r\n1\r\n2\r\n => => => 2 => in == hi\n
+    - // Lines and columns.
+    - teco --wide in => YJ0UA<%A\\I. \x1bL.-Z;>HT\x1b\x1b => 1. a\n2. b\n => => => 2 => in == a\nb\n
+    - teco --wide in => YJ<S\t\x1b;-DI        \x1b>HT\x1b\x1b => a        b\n => => => 2 => in == a\tb\n
+    - teco --wide in => YJ0US<\\+QSUSL.-Z;>QS=\x1b\x1b => 6\r\n => => => 2 => in == 1\n2\n3\n
+    - teco --wide in => YJ1UN<JQNL.-Z;XAKJGA%N\x1b>HT\x1b\x1b => c\nb\na\n => => => 2 => in == a\nb\nc\n
+    - teco --wide in => YJ<2C2DL.-Z;>HT\x1b\x1b => abef\nghkl\n => => => 2 => in == abcdef\nghijkl\n
+    - teco --wide in => YJ<2L.-Z;12I\x1b>HT\x1b\x1b => a\nb\n\x0cc\n => => => 2 => in == a\nb\nc\n
+    - // What a search found, and what it found into a register.
+    - teco --wide in => YJ:Sfoo\x1b\"S\x01yes\x01|\x01no\x01':Sbar\x1b\"U\x01none\x01'\x1b\x1b => yesnone => => => 2 => in == a foo\n
+    - teco --wide in => YJ<Sfoo\x1b;0L:XAL>HKGAHT\x1b\x1b => foo 1\nfoo 2\n => => => 2 => in == foo 1\nbar\nfoo 2\n
+    - // Pages, whose reading gives whether there was one.
+    - teco --wide in => Y<J<FSa\x1bb\x1b;>:P;>EX\x1b\x1b => => => => => in == a1\n\x0c2a\n\x0caa\n => in == a1\n\x0c2a\n\x0caa\n ++ in.out == b1\n\x0c2b\n\x0cbb\n
+    - teco --wide in => Y<:A;>Z=\x1b\x1b => 4\r\n => => => 2 => in == a\n\x0cb\n";
