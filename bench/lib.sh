@@ -36,7 +36,7 @@ command_of() {
         rust) echo rustc ;;
         whole) echo cc ;;
         other) echo "${OTHER:-no other build, which OTHER would name}" ;;
-        run | script) echo sh ;;
+        named | run | script) echo sh ;;
         *) echo "$1" ;;
     esac
 }

@@ -2,8 +2,9 @@
 # WORK is how much is to be done, in hundredths of the work that the line is named for.
 #
 # A goal is a line of text: `all PEER RATIO` of user and system time together, `user PEER RATIO` of the user time, `peak PEER RATIO` of the
-# peak of memory, `held BYTES`, which is the peak of memory beyond what the program takes over an empty file, `seconds N` of user time, or
-# `instructions N` or `calls N`, which are the instructions and the system calls that one unit of the work takes; `calls` only where strace is.
+# peak of memory, `counted PEER RATIO` of the instructions of a unit, `held BYTES`, which is the peak of memory beyond what the program takes
+# over an empty file, `seconds N` of user time, or `instructions N` or `calls N`, which are the instructions and the system calls that one
+# unit of the work takes; `calls` only where strace is.
 #
 # A line that is counted says what its unit is called, and how many there are. Two sizes are counted, `share` hundredths of the work and twice
 # as much, and their difference is told for a unit, so that what is done once is not in it. The instructions of the peer `less` are taken off.

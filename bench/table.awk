@@ -131,6 +131,10 @@ END {
         if (part[2] == "user") judge_ratio("user time", part, u[first], u[peer])
         if (part[2] == "all") judge_ratio("user and system time", part, b[first], b[peer])
         if (part[2] == "peak") judge_ratio("peak of memory", part, peak[first], peak[peer])
+        if (part[2] == "counted") {
+            theirs = of_unit(counted, part[1], part[3])
+            judge_seen(theirs > 0, part[1] ", instructions of " of " beside " part[3], theirs > 0 ? takes[part[1]] / theirs : 0, part[4])
+        }
         if (part[2] == "held") judge_seen(first in rounds, part[1] ", bytes held", (peak[first] - base) * 1024, part[3])
         if (part[2] == "seconds") judge_seen(first in rounds, part[1] ", user time in seconds", u[first], part[3])
         if (part[2] == "instructions") judge_seen(part[1] in takes, part[1] ", instructions of " of, takes[part[1]], part[3])

@@ -214,10 +214,10 @@
   "The diagnostics for the buffer SOURCE of the lines in this buffer."
   (let (found)
     (goto-char (point-min))
-    (while (re-search-forward "^-:\\([0-9]+\\):\\([0-9]+\\): \\(hint: \\|not checked: \\)?\\(.*\\)$" nil t)
+    (while (re-search-forward "^-:\\([0-9]+\\):\\([0-9]+\\): \\(hint: \\(?:not checked: \\)?\\)?\\(.*\\)$" nil t)
       (let* ((line (string-to-number (match-string 1)))
              (column (string-to-number (match-string 2)))
-             (kind (cond ((null (match-string 3)) :error) ((string-prefix-p "hint" (match-string 3)) :note) (t :warning)))
+             (kind (cond ((null (match-string 3)) :error) ((string= "hint: " (match-string 3)) :note) (t :warning)))
              (words (match-string 4)))
         (with-current-buffer source
           (save-restriction
@@ -252,7 +252,7 @@
     (process-send-eof teco--check)))
 
 (add-to-list 'compilation-error-regexp-alist-alist
-             '(tecol "^\\([^:\n]+\\):\\([0-9]+\\):\\([0-9]+\\): \\(?:\\(not checked\\)\\|\\(hint\\)\\): " 1 2 3 (4 . 5)))
+             '(tecol "^\\([^:\n]+\\):\\([0-9]+\\):\\([0-9]+\\): \\(?:\\(hint: not checked\\)\\|\\(hint\\)\\): " 1 2 3 (4 . 5)))
 (add-to-list 'compilation-error-regexp-alist 'tecol)
 
 (defun teco--set-command ()

@@ -1,5 +1,5 @@
 -- A text that a token puts into a register is shorter than the token.
-use Rattle.std.proofs.Common.{◌≡◌, ℕ, zero, suc, Bool, true, false, Some, None, ◌+◌, ◌-◌, ◌<◌, ◌≤◌, List, [], ◌∷◌, ◌++◌, length, length-append, length-drop, drop, Result, Ok, Err, refl, sym, ap, subst, ◌∙◌, eqb, arith}
+use Rattle.std.proofs.Common.{◌≡◌, ℕ, zero, suc, Bool, true, false, Some, None, ◌+◌, ◌-◌, ◌<◌, ◌≤◌, List, [], ◌∷◌, ◌++◌, length, length-append, length-drop, drop, Result, Ok, Err, refl, sym, ap, subst, ◌∙◌, arith}
 use Rattle.std.proofs.lemmas.List.{length-take-le}
 use Rattle.teco_core.specs.declared.code.Code.{Code}
 use Rattle.teco_core.specs.declared.profile.Profile.{Profile}
@@ -16,13 +16,12 @@ use Rattle.teco_scan.specs.Scan.{Instruction, TokenMeaning, step, set_text, foun
 use Rattle.teco_scan.specs.Seen.{IsTokenAt, IsSpanIn, IsKindIn, item_in, meaning_in, bytes_in, instruction_in}
 use Rattle.teco_scan.specs.Spelling.{Spells, run_spelled, command_spelled, SpellsOperand, bare_spelled, mark_spelled, escape_spelled, register_spelled, byte_spelled, test_spelled, text_spelled, tag_spelled, set_text_spelled, replace_spelled, IsSpelled}
 use Rattle.teco_check.specs.Checked.{inner_length, held, may_hold}
-use Rattle.teco_check.specs.Clean.{is_fine, is_whole, clean_within}
+use Rattle.teco_check.specs.Clean.{is_fine, is_whole, is_written_out, clean_within}
 use Rattle.teco_scan.specs.Walk.{OpenList}
 use Rattle.teco_check.specs.Walk.{wrong_with, rule}
 use Rattle.teco_check.specs.declared.faults.Wrong.TheVariants as wrongs
 use Rattle.teco_scan.specs.Tree.{Nodes}
 use Rattle.std.specs.Prelude.{not, ◌||◌, ◌&&◌, if◌then◌else◌}
-use Rattle.std.proofs.lemmas.Bool.{false_from_ne_true, eqb-true}
 use Rattle.teco_exec.proofs.Placings.{fillers_twice}
 
 operand_long : (f : Form) (m : Modifiers) (i : Instruction) (bs : List ℕ) (q : ℕ) (x : List ℕ) → SpellsOperand f m i bs → i ≡ step (set_text q x) → length x + 2 ≤ length bs
@@ -62,19 +61,18 @@ length_taken bs s h =
 abbrev pub a_text : ℕ → Span → SpannedItem
 a_text q s = items.SetText q s
 
--- with a colon a text is not whole, and without one it is
-pub behind_is : (marks : Modifiers) → marks.colons ≡ 1 → is_whole marks ≡ false
-behind_is marks e = ap (λ (n : ℕ). not (eqb n 1)) e
+-- a text that is all of what its register gets is whole and written out
+pub whole_of : (whole out : Bool) → whole && out ≡ true → whole ≡ true
+whole_of true out e = refl
+whole_of false out e = absurd cc
 
-pub whole_is : (marks : Modifiers) → (marks.colons ≡ 1 → ⊥) → is_whole marks ≡ true
-whole_is marks whole = ap not (false_from_ne_true (eqb marks.colons 1) (λ x. whole (eqb-true marks.colons 1 x)))
+pub out_of : (whole out : Bool) → whole && out ≡ true → out ≡ true
+out_of true out e = e
+out_of false out e = absurd cc
 
--- a whole text may be put there if its bytes may, and one that is not may not
-pub whole_may : (marks : Modifiers) (may v : Bool) → is_whole marks ≡ true → may ≡ v → is_whole marks && may ≡ v
-whole_may marks may v whole e = ap (λ (b : Bool). b && may) whole ∙ e
-
-pub behind_may : (marks : Modifiers) (may : Bool) → is_whole marks ≡ false → is_whole marks && may ≡ false
-behind_may marks may behind = ap (λ (b : Bool). b && may) behind
+-- such a text may be put there if its bytes may
+pub whole_may : (whole may v : Bool) → whole ≡ true → may ≡ v → whole && may ≡ v
+whole_may whole may v is e = ap (λ (b : Bool). b && may) is ∙ e
 
 one_fewer : (n : ℕ) → (n ≡ 0 → ⊥) → n ≡ suc (n - 1)
 one_fewer n some = omega (arith, some)
@@ -123,25 +121,22 @@ module _ (profile : Profile) where
       ∙ ap (λ (b : Bool). not b || (is_whole marks && may_hold profile n code (bytes_in text s))) h ∙ m
 
   module _ (n : ℕ) (code : List Bool) (text : List ℕ) (lists : List OpenList) (marks : Modifiers) (item : SpannedItem) (q : ℕ) (s : Span) (is : item ≡ a_text q s) (h : held code q ≡ true) where
-    put_there : wrong_with profile (rule profile n code) text lists marks (item_in text item) ≡ (if is_whole marks then (if may_hold profile n code (bytes_in text s) then None else Some wrongs.InText) else Some wrongs.Loads)
+    put_there : wrong_with profile (rule profile n code) text lists marks (item_in text item) ≡ (if is_whole marks && is_written_out profile (bytes_in text s) then (if may_hold profile n code (bytes_in text s) then None else Some wrongs.InText) else Some wrongs.Loads)
     put_there =
         ap (λ (x : SpannedItem). wrong_with profile (rule profile n code) text lists marks (item_in text x)) is
-        ∙ ap (λ (b : Bool). if b then (if is_whole marks then (if may_hold profile n code (bytes_in text s) then None else Some wrongs.InText) else Some wrongs.Loads) else None) h
+        ∙ ap (λ (b : Bool). if b then (if is_whole marks && is_written_out profile (bytes_in text s) then (if may_hold profile n code (bytes_in text s) then None else Some wrongs.InText) else Some wrongs.Loads) else None) h
 
-    pub wrong_text : (v : Bool) → is_whole marks ≡ true → may_hold profile n code (bytes_in text s) ≡ v → wrong_with profile (rule profile n code) text lists marks (item_in text item) ≡ (if v then None else Some wrongs.InText)
+    pub wrong_text : (v : Bool) → is_whole marks && is_written_out profile (bytes_in text s) ≡ true → may_hold profile n code (bytes_in text s) ≡ v → wrong_with profile (rule profile n code) text lists marks (item_in text item) ≡ (if v then None else Some wrongs.InText)
     wrong_text v whole m =
         put_there ∙ ap (λ (b : Bool). if b then (if may_hold profile n code (bytes_in text s) then None else Some wrongs.InText) else Some wrongs.Loads) whole
         ∙ ap (λ (b : Bool). if b then None else Some wrongs.InText) m
 
-    pub wrong_behind : is_whole marks ≡ false → wrong_with profile (rule profile n code) text lists marks (item_in text item) ≡ Some wrongs.Loads
-    wrong_behind behind = put_there ∙ ap (λ (b : Bool). if b then (if may_hold profile n code (bytes_in text s) then None else Some wrongs.InText) else Some wrongs.Loads) behind
-
   -- A text that is looked into may be put there if it is clean, looked into one text less deep.
-  pub text_may : (n : ℕ) (code : List Bool) (t : List ℕ) (v : Bool) → (n ≡ 0 → ⊥) → clean_within profile (suc (n - 1)) (held code) t ≡ v → may_hold profile n code t ≡ v
-  text_may n code t v some e = subst (λ (m : ℕ). clean_within profile m (held code) t ≡ v) (sym (one_fewer n some)) e
+  pub text_may : (n : ℕ) (code : List Bool) (t : List ℕ) (v : Bool) → is_written_out profile t ≡ true → (n ≡ 0 → ⊥) → clean_within profile (suc (n - 1)) (held code) t ≡ v → may_hold profile n code t ≡ v
+  text_may n code t v out some e = whole_may (is_written_out profile t) (clean_within profile n (held code) t) v out (subst (λ (m : ℕ). clean_within profile m (held code) t ≡ v) (sym (one_fewer n some)) e)
 
   -- where no text is looked into any more
-  pub none_may : (n : ℕ) (code : List Bool) (t : List ℕ) → n ≡ 0 → may_hold profile n code t ≡ false
+  pub none_may : (n : ℕ) (code : List Bool) (t : List ℕ) → n ≡ 0 → is_written_out profile t ≡ true → may_hold profile n code t ≡ false
   unfolding clean_within
-  none_may zero code t e = refl
-  none_may (suc n) code t e = absurd cc
+  none_may zero code t e out = whole_may (is_written_out profile t) false false out refl
+  none_may (suc n) code t e out = absurd cc

@@ -1,6 +1,6 @@
 -- A check and the spelling alone walk a text together, up to an item with which something is wrong.
 use Rattle.std.proofs.Common.{◌≡◌, ◌≢◌, ◌⊎◌, ℕ, zero, suc, ◌<◌, ◌≤◌, Bool, true, false, List, [], ◌∷◌, length, Option, Some, None, IfSome, IsSomeAnd, cond as choose, refl, sym, ap, ◌∙◌, subst, inl, inr, arith}
-use Rattle.std.specs.Prelude.{◌==◌}
+use Rattle.std.specs.Prelude.{◌&&◌, ◌==◌}
 use Rattle.teco_core.specs.Ascii.{is_filler}
 use Rattle.teco_core.specs.declared.profile.Profile.{Profile}
 use Rattle.teco_scan.specs.declared.breaks.ListFault.{ListFault}
@@ -21,7 +21,7 @@ use Rattle.teco_check.specs.declared.faults.Fault.{Fault}
 use Rattle.teco_check.specs.declared.faults.Wrong.{Wrong}
 use Rattle.teco_check.specs.declared.faults.Wrong.TheVariants as wrongs
 use Rattle.teco_check.specs.Checked.{code_of}
-use Rattle.teco_check.specs.Clean.{is_whole}
+use Rattle.teco_check.specs.Clean.{is_whole, is_written_out}
 use Rattle.teco_check.specs.OneBreak.{IsOneBreak}
 use Rattle.teco_check.specs.Walk.{CodeRule, by_check, first_within, lands_in, marks_at, told_break, told_item, wrong_with, rule}
 use Rattle.teco_check.proofs.Places.{scan_same}
@@ -140,8 +140,8 @@ module _ (profile : Profile) where
       of_whole true = of_may (code.may t)
       of_whole false = refl
 
-      of_hold : (v : Bool) → IfSome (choose v (choose (is_whole m) (choose (code.may t) None (Some wrongs.InText)) (Some wrongs.Loads)) None) (λ w. code_of w ≡ None)
-      of_hold true = of_whole (is_whole m)
+      of_hold : (v : Bool) → IfSome (choose v (choose (is_whole m && is_written_out profile t) (choose (code.may t) None (Some wrongs.InText)) (Some wrongs.Loads)) None) (λ w. code_of w ≡ None)
+      of_hold true = of_whole (is_whole m && is_written_out profile t)
       of_hold false = tt
 
   module _ (text : List ℕ) where

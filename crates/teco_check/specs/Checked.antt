@@ -6,7 +6,7 @@ use Rattle.teco_core.specs.declared.profile.Profile.{Profile}
 use Rattle.teco_scan.specs.declared.blocks.Kind.{Kind}
 use Rattle.teco_scan.specs.Tree.{Nodes}
 use Rattle.teco_scan.specs.Lists.{list_at, tag_at}
-use Rattle.teco_check.specs.Clean.{lands, is_clean, clean_within}
+use Rattle.teco_check.specs.Clean.{lands, is_clean, clean_within, may_put}
 use Rattle.teco_scan.specs.declared.command.BlockMark.TheVariants.{Iterate, EndIteration, Otherwise, EndTest}
 use Rattle.teco_scan.specs.declared.command.TextCommand.TheVariants as texts
 use Rattle.teco_scan.specs.declared.command.RegisterCommand.TheVariants as registers
@@ -25,7 +25,7 @@ held code q = slice_index_or code q false
 
 -- the texts that may be put there: those that are clean, and so on, so many texts deep
 abbrev pub may_hold : Profile → ℕ → List Bool → List ℕ → Bool
-may_hold p n code = clean_within p n (held code)
+may_hold p n code = may_put p (clean_within p n (held code))
 
 -- A tag of this name is directly in one of the innermost lists so many, the outermost of which is that of the text. `starts` has the
 -- place where each begins.

@@ -1,5 +1,5 @@
 -- The first fault that a check tells: of a walk over the tokens of a text, by the rule of a check.
-use Rattle.std.specs.Prelude.{ℕ, Bool, false, ◌||◌, List, [], ◌∷◌, length, drop, Option, Some, None, is_some, if◌then◌else◌}
+use Rattle.std.specs.Prelude.{ℕ, Bool, false, ◌&&◌, ◌||◌, List, [], ◌∷◌, length, drop, Option, Some, None, is_some, if◌then◌else◌}
 use Rattle.teco_core.specs.declared.profile.Profile.{Profile}
 use Rattle.teco_scan.specs.declared.command.Modifiers.{Modifiers}
 use Rattle.teco_scan.specs.declared.command.TextCommand.TheVariants as texts
@@ -11,7 +11,7 @@ use Rattle.teco_scan.specs.Lists.{tag_at}
 use Rattle.teco_scan.specs.Walk.{Break, unreadable, stray, unended, too_deep, OpenList, Rule, Walker, own_list}
 use Rattle.teco_scan.specs.Walk as walked
 use Rattle.teco_check.specs.Checked.{held, may_hold}
-use Rattle.teco_check.specs.Clean.{is_whole}
+use Rattle.teco_check.specs.Clean.{is_whole, is_written_out}
 use Rattle.teco_check.specs.declared.faults.Fault.{Fault}
 use Rattle.teco_check.specs.declared.faults.TheConstants.{MOST_TEXTS}
 use Rattle.teco_check.specs.declared.faults.Wrong.{Wrong}
@@ -28,14 +28,14 @@ pub record CodeRule : Type 0 where
   pub may : List ℕ → Bool
 
 -- What is wrong with an item: a jump lands nowhere; a register is called that holds no code; what is in the buffer or was pushed is
--- put where code is, or what comes behind the text that is there; or so is a text that has a fault.
+-- put where code is, or what comes behind the text that is there, or a byte that a number may give; or so is a text that has a fault.
 abbrev pub wrong_with : Profile → CodeRule → List ℕ → List OpenList → Modifiers → Item → Option Wrong
 wrong_with p code bytes lists m (token.text texts.Go name) = if lands_in p bytes lists name then None else Some wrongs.NoTag
 wrong_with p code bytes lists m (token.register registers.Macro q) = if code.holds q then None else Some wrongs.Calls
 wrong_with p code bytes lists m (token.register registers.Extract q) = if code.holds q then Some wrongs.Loads else None
 wrong_with p code bytes lists m (token.register registers.Pop q) = if code.holds q then Some wrongs.Loads else None
 wrong_with p code bytes lists m (token.set_text q t) =
-    if code.holds q then (if is_whole m then (if code.may t then None else Some wrongs.InText) else Some wrongs.Loads)
+    if code.holds q then (if is_whole m && is_written_out p t then (if code.may t then None else Some wrongs.InText) else Some wrongs.Loads)
     else None
 wrong_with p code bytes lists m i = None
 

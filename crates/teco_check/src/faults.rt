@@ -1,5 +1,5 @@
 //! The first fault of a text.
-ghost use Rattle.std.specs.Prelude.{slice_index, ◌≡◌, ◌≢◌, ◌+◌, ◌-◌, ◌<◌, ◌≤◌, ℕ, suc, true, false, Bool, List, [], ◌∷◌, length, drop, IfOk, IfErr, IfSome, Option, Some, None, is_ok, is_some, is_none};
+ghost use Rattle.std.specs.Prelude.{slice_index, ◌≡◌, ◌≢◌, ◌+◌, ◌-◌, ◌<◌, ◌≤◌, ◌&&◌, ℕ, suc, true, false, Bool, List, [], ◌∷◌, length, drop, IfOk, IfErr, IfSome, Option, Some, None, is_ok, is_some, is_none};
 ghost use Rattle.teco_core.specs.declared.code.Code.{Code};
 ghost use Rattle.teco_core.specs.declared.limits.TheConstants.{BLOCK_LIMIT};
 ghost use Rattle.teco_scan.specs.Scan.{ended, found, scan, step};
@@ -11,7 +11,7 @@ ghost use Rattle.teco_scan.specs.Lists.{at_instruction, at_mark, at_scan, broken
 ghost use Rattle.teco_scan.specs.declared.command.Modifiers.{Modifiers};
 ghost use Rattle.teco_scan.specs.declared.command.Test.{Test};
 ghost use Rattle.std.specs.Prelude.{Ok};
-ghost use Rattle.teco_check.specs.Clean.{is_fine, is_clean, clean_within};
+ghost use Rattle.teco_check.specs.Clean.{is_fine, is_clean, is_whole, is_written_out, clean_within};
 ghost use Rattle.teco_scan.specs.Walk.{OpenList};
 ghost use Rattle.teco_scan.specs.Walk as walked;
 ghost use Rattle.teco_check.specs.Walk.{by_check, first_within, rule, told_item, check_walk, wrong_with};
@@ -84,6 +84,18 @@ fn holds_code(code: &[bool; REGISTERS], item: &Item) -> bool
     }
 }
 
+/// Whether a text is all that its register gets: with a colon it comes behind another, and in Wide nothing written may stand for a byte
+/// that a number gives.
+fn is_all(profile: Profile, modifiers: Modifiers, text: &[u8]) -> bool
+    ensures { result ≡ is_whole modifiers && is_written_out profile text.now }
+{
+    let is_written_out = match profile {
+        Profile::Named => true,
+        Profile::Wide => !text.is_empty(),
+    };
+    modifiers.colons != 1 && is_written_out
+}
+
 /// What is wrong with an item where so many lists are open, if it is not fine.
 #[cycle(check)]
 fn wrong_of(
@@ -131,13 +143,13 @@ fn wrong_of(
             if !holds {
                 return None;
             }
-            if modifiers.colons == 1 {
+            let inside = &text[span.from..span.to];
+            if !is_all(look.profile, modifiers, inside) {
                 return Some(Wrong::Loads);
             }
             if look.texts == 0 {
                 return Some(Wrong::InText);
             }
-            let inside = &text[span.from..span.to];
             if check_text(look.profile, inside, look.code, look.texts - 1, look.memory).is_none() {
                 return None;
             }

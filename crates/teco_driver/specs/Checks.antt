@@ -6,7 +6,8 @@ use Rattle.teco_check.specs.CleanRuns.{HoldsCode}
 use Rattle.teco_lint.specs.Calls.{AreCalled, AreCalledOver}
 use Rattle.teco_lint.specs.Right.{AreRight}
 use Rattle.teco_lint.specs.Spelling.{is_misspelt, is_misspelt_text}
-use Rattle.teco_lint.specs.Strings.{has_fault, is_faulty}
+use Rattle.teco_lint.specs.Faults.{has_fault, is_faulty}
+use Rattle.teco_lint.specs.Strings.{is_unclean, is_unclean_text}
 use Rattle.teco_cli.specs.declared.line.Commands.{Commands}
 use Rattle.teco_cli.specs.declared.line.Commands.TheVariants.{StandardInput, Sources, Pages, Bytes}
 use Rattle.teco_cli.specs.declared.line.Line.{Line}
@@ -43,9 +44,12 @@ abbrev pub SaysOfLine : (wrong wrong_text : List Bool → List ℕ → Bool) →
 SaysOfLine wrong wrong_text line bytes says = (alone all : Bool) × SaysAlone line.profile wrong line.commands alone
     × SaysOfAll wrong wrong_text line bytes all × (says ≡ (alone || all))
 
--- whether they have a fault; and whether they have one by which a run ends
+-- whether they have a fault; whether they have one, or something that no check looks into; and whether the first that is told is a fault
 abbrev pub SaysFaulty : Line → List ℕ → Bool → Type 0
 SaysFaulty line bytes says = SaysOfLine (is_faulty line.profile) (has_fault line.profile) line bytes says
+
+abbrev pub SaysUnclean : Line → List ℕ → Bool → Type 0
+SaysUnclean line bytes says = SaysOfLine (is_unclean line.profile) (is_unclean_text line.profile) line bytes says
 
 abbrev pub SaysMisspelt : Line → List ℕ → Bool → Type 0
 SaysMisspelt line bytes says = SaysOfLine (is_misspelt line.profile) (is_misspelt_text line.profile) line bytes says
@@ -61,12 +65,14 @@ abbrev pub status_of_check : Bool → ℕ
 status_of_check faulty = if faulty then 2 else 0
 
 -- The lines of the check are put on the terminal, and nothing is told on standard error. The status says whether there is a
--- fault; if not, the commands run without one.
+-- fault. Where all is clean, the commands run without one.
 pub record ShowsVerdict {T E : Type 0} (screen : T → Screen) (line : Line) (bytes : List ℕ) (old new : T)
     (told telling : E) (status : ℕ) : Type 0 where
   pub faulty : Bool
   pub verdict : SaysFaulty line bytes faulty
-  pub right : faulty ≡ false → RunWithoutFault line bytes
+  pub unclean : Bool
+  pub whole : SaysUnclean line bytes unclean
+  pub right : unclean ≡ false → RunWithoutFault line bytes
   pub status_is : status ≡ status_of_check faulty
   pub lines : List ℕ
   pub shown : Shows (screen old) (screen new) lines false

@@ -139,6 +139,10 @@ letters_and_digits : (holds test.Letter (pos 65) ≡ true) × (holds test.Letter
     × (holds test.LetterOrDigit (pos 90) ≡ true) × (holds test.LetterOrDigit (pos 57) ≡ true) × (holds test.LetterOrDigit (pos 95) ≡ false) × (holds test.LetterOrDigit (negsuc 0) ≡ false)
 letters_and_digits = (refl, refl, refl, refl, refl, refl, refl, refl, refl, refl, refl, refl)
 
+bytes_of_names : (holds test.NameByte (pos 36) ≡ true) × (holds test.NameByte (pos 46) ≡ true) × (holds test.NameByte (pos 95) ≡ true) × (holds test.NameByte (pos 45) ≡ false)
+    × (holds test.NameByte (pos 97) ≡ true) × (holds test.NameByte (pos 57) ≡ true) × (holds test.NameByte (pos 96) ≡ false) × (holds test.NameByte (pos 302) ≡ false)
+bytes_of_names = (refl, refl, refl, refl, refl, refl, refl, refl)
+
 jumps :
     (within 5 "!x!Ox$" ≡ types "" (Some code.Lim) 5)
     -- A fault before a tag hides it.

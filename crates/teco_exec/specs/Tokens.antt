@@ -3,7 +3,7 @@ use Rattle.std.specs.Prelude.{◌≡◌, ◌<◌, ◌≤◌, ◌⊎◌, ℕ, Boo
 use Rattle.teco_scan.specs.declared.command.Bare.TheVariants.{Command}
 use Rattle.teco_scan.specs.declared.command.Command.TheVariants.{Leave}
 use Rattle.teco_scan.specs.declared.command.RegisterCommand.TheVariants.{Macro}
-use Rattle.teco_scan.specs.declared.command.TextCommand.TheVariants.{Search, SearchPages, SearchPagesQuietly}
+use Rattle.teco_scan.specs.declared.command.TextCommand.TheVariants.{FindAndDelete, FindAndKill, Search, SearchPages, SearchPagesQuietly}
 use Rattle.teco_scan.specs.declared.token.Item.TheVariants.{Bare, Register, Replace, Text}
 use Rattle.teco_scan.specs.declared.token.Token.{Token}
 use Rattle.teco_scan.specs.declared.token.TokenKind.{TokenKind}
@@ -33,6 +33,8 @@ looks_around (Item (Bare (Command Leave))) = true
 looks_around (Item (Text Search span)) = true
 looks_around (Item (Text SearchPages span)) = true
 looks_around (Item (Text SearchPagesQuietly span)) = true
+looks_around (Item (Text FindAndDelete span)) = true
+looks_around (Item (Text FindAndKill span)) = true
 looks_around (Item (Replace old new)) = true
 looks_around k = false
 

@@ -268,6 +268,8 @@ fn looks_around(token: &Token) -> bool
         TokenKind::Item(Item::Text(TextCommand::Search, _)) => true,
         TokenKind::Item(Item::Text(TextCommand::SearchPages, _)) => true,
         TokenKind::Item(Item::Text(TextCommand::SearchPagesQuietly, _)) => true,
+        TokenKind::Item(Item::Text(TextCommand::FindAndDelete, _)) => true,
+        TokenKind::Item(Item::Text(TextCommand::FindAndKill, _)) => true,
         TokenKind::Item(Item::Replace(_, _)) => true,
         _ => false,
     }

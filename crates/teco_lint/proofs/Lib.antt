@@ -1,4 +1,6 @@
+pub mod Blanks
 pub mod Cuts
+pub mod FirstFaults
 pub mod Misspelt
 pub mod Noted
 pub mod Rights

@@ -1,6 +1,8 @@
 -- What is told of commands, string by string.
-use Rattle.std.proofs.Common.{◌≡◌, ℕ, ◌+◌, ◌-◌, ◌≤◌, Bool, false, List, [], ◌∷◌, length, take, drop, sym, subst, arith, length-drop}
-use Rattle.std.proofs.lemmas.List.{length-take-le}
+use Rattle.std.proofs.Common.{◌≡◌, ℕ, ◌+◌, ◌-◌, ◌≤◌, Bool, true, false, ◌||◌, List, [], ◌∷◌, length, take, drop, refl, sym, ap, subst, ◌∙◌, arith, length-drop}
+use Rattle.std.specs.List.{insert, list_any}
+use Rattle.std.proofs.lemmas.List.{length-take-le, take-append-drop}
+use Rattle.std.proofs.lemmas.List.Folds.{list_any-append}
 use Rattle.teco_lint.specs.declared.remarks.Remark.{Remark}
 use Rattle.teco_lint.specs.Told.{IsTold, TellsFirst, is_fault}
 use Rattle.teco_lint.specs.Strings.{AreTold, is_request}
@@ -37,3 +39,15 @@ pub last_told : (p : Profile) (code : List Bool) (later : List Remark) (from : �
 last_told p code later from string cut all e same told =
     subst (λ (strings : List (List ℕ)). AreTold p code later from strings) (sym e)
     (subst (λ (s : List ℕ). is_request s ≡ false → TellsFirst p code later from s) same told, tt)
+
+either_more : (a b c : Bool) → a || b ≡ true → a || (c || b) ≡ true
+either_more true b c h = refl
+either_more false b true h = refl
+either_more false b false h = h
+
+-- what is among the remarks is among them when one more comes
+pub any_insert : (test : Remark → Bool) (xs : List Remark) (i : ℕ) (x : Remark) (ys : List Remark) → ys ≡ insert xs i x → list_any test xs ≡ true → list_any test ys ≡ true
+any_insert test xs i x ys e h =
+    let parts : list_any test (take i xs) || list_any test (drop i xs) ≡ true =
+    sym (list_any-append test (take i xs) (drop i xs)) ∙ ap (list_any test) (take-append-drop i xs) ∙ h in
+    ap (list_any test) e ∙ list_any-append test (take i xs) (x ∷ drop i xs) ∙ either_more (list_any test (take i xs)) (list_any test (drop i xs)) (test x) parts

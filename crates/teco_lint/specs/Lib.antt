@@ -1,4 +1,5 @@
 pub mod Calls
+pub mod Faults
 pub mod Spelling
 pub mod Strings
 pub mod Right

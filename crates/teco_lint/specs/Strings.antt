@@ -1,4 +1,4 @@
--- Commands as command strings, and whether one of them has a fault.
+-- Commands as command strings, and whether each of them is clean.
 use Rattle.std.specs.Prelude.{◌≡◌, ◌+◌, ℕ, length, Bool, false, not, ◌&&◌, List, [], ◌∷◌, ◌++◌, is_some, if◌then◌else◌}
 use Rattle.std.specs.List.{list_any}
 use Rattle.teco_scan.specs.Stream.{asks_of, ends_in_escape, is_run, rest_of, texts_of}
@@ -15,16 +15,17 @@ strings_of commands = texts_of commands ++ rest_of commands ∷ []
 abbrev pub is_request : List ℕ → Bool
 is_request string = ends_in_escape string && not (is_run (asks_of string))
 
--- The text has a fault, where these registers hold code.
-abbrev pub has_fault : Profile → List Bool → List ℕ → Bool
-has_fault p code text = is_some (first_of p code text)
+-- The text isn't clean, where these registers hold code: it has a fault, or something that no check looks into.
+abbrev pub is_unclean_text : Profile → List Bool → List ℕ → Bool
+is_unclean_text p code text = is_some (first_of p code text)
 
--- The string is a text with a fault.
-abbrev pub is_faulty_string : Profile → List Bool → List ℕ → Bool
-is_faulty_string p code string = if is_request string then false else has_fault p code string
+-- The string is such a text.
+abbrev pub is_unclean_string : Profile → List Bool → List ℕ → Bool
+is_unclean_string p code string = if is_request string then false else is_unclean_text p code string
 
-abbrev pub is_faulty : Profile → List Bool → List ℕ → Bool
-is_faulty p code commands = list_any (is_faulty_string p code) (strings_of commands)
+-- One of the command strings is.
+abbrev pub is_unclean : Profile → List Bool → List ℕ → Bool
+is_unclean p code commands = list_any (is_unclean_string p code) (strings_of commands)
 
 -- Of each string that is no request, the first of which begins at this place, the first fault is told. The next string begins after the
 -- second ESC of the pair that ends one.

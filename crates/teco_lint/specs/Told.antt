@@ -16,12 +16,27 @@ abbrev pub is_in_text : Wrong → Bool
 is_in_text wrongs.InText = true
 is_in_text w = false
 
+-- A run that comes to it ends by its code. What no check looks into may be fine.
+abbrev pub ends_run : Wrong → Bool
+ends_run wrongs.Calls = false
+ends_run wrongs.Loads = false
+ends_run wrongs.InText = false
+ends_run wrong = true
+
 abbrev pub says_fault : What → Bool
 says_fault (whats.Fault f) = true
 says_fault w = false
 
 abbrev pub is_fault : Remark → Bool
 is_fault r = says_fault r.what
+
+-- It tells of a fault, and not of what no check looks into.
+abbrev pub says_ended : What → Bool
+says_ended (whats.Fault f) = ends_run f.wrong
+says_ended w = false
+
+abbrev pub tells_fault : Remark → Bool
+tells_fault r = says_ended r.what
 
 -- the place so far after another one, as far as numbers go
 abbrev pub place_after : ℕ → ℕ → ℕ

@@ -1,5 +1,6 @@
 //! Forms of commands that are left out, though the commands are here. They are told by the numbers that are spelled before a command.
 
+use teco_core::Profile;
 use teco_scan::{Arithmetic, Bare, Command, Item, RegisterCommand, TextCommand, Token, TokenKind};
 
 /// What is spelled before a command, if that is numbers alone.
@@ -13,21 +14,21 @@ pub(crate) enum Before {
     Unknown,
 }
 
-/// A form of a command that is left out: a run that comes to it ends by ARG.
+/// A form of a command that a profile leaves out: a run that comes to it ends by ARG. The first three are left out of Named alone.
 #[derive(Clone, Copy)]
 pub enum Form {
     /// `nQq`
     NumberAndRegister,
     /// `m,nUq`
     PairAndRegister,
+    /// `n^Uqtext$`
+    NumberedText,
     /// `^T` without a number
     TypeByteAlone,
     /// `nV`
     NumberedView,
     /// `nPW`
     NumberedWrite,
-    /// `n^Uqtext$`
-    NumberedText,
     /// `m,nStext$`
     BoundedSearch,
     /// `^X` without a number
@@ -41,6 +42,14 @@ impl Before {
             Before::Nothing => Before::Number,
             Before::NumberAndComma => Before::Pair,
             _ => Before::Unknown,
+        }
+    }
+
+    /// After `U`, which gives a number after a pair.
+    fn and_set(self) -> Before {
+        match self {
+            Before::Pair => Before::Unknown,
+            _ => Before::Nothing,
         }
     }
 
@@ -58,7 +67,8 @@ impl Before {
         match item {
             Item::Digits(_) | Item::Byte(_) => self.and_number(),
             Item::Register(RegisterCommand::Number, _) => self.and_number(),
-            Item::Register(RegisterCommand::Set | RegisterCommand::Get, _) => Before::Nothing,
+            Item::Register(RegisterCommand::Set, _) => self.and_set(),
+            Item::Register(RegisterCommand::Get, _) => Before::Nothing,
             Item::Register(RegisterCommand::Extract, _) => Before::Nothing,
             Item::Bare(bare) => self.and_bare(bare, colons),
             Item::Text(TextCommand::Go, _) => Before::Unknown,
@@ -90,24 +100,34 @@ fn form_of_command(command: Command, before: Before) -> Option<Form> {
     }
 }
 
-/// The form of an item with this before it, if it is left out.
-fn form_of_item(item: Item, before: Before) -> Option<Form> {
+/// A form that Named alone leaves out, if the profile is that.
+fn in_named(profile: Profile, form: Form) -> Option<Form> {
+    match profile {
+        Profile::Named => Some(form),
+        Profile::Wide => None,
+    }
+}
+
+/// The form of an item with this before it, if the profile leaves it out.
+fn form_of_item(profile: Profile, item: Item, before: Before) -> Option<Form> {
     match (item, before) {
         (Item::Bare(Bare::Command(command)), _) => form_of_command(command, before),
         (Item::Register(RegisterCommand::Number, _), Before::Number | Before::Pair) => {
-            Some(Form::NumberAndRegister)
+            in_named(profile, Form::NumberAndRegister)
         }
-        (Item::Register(RegisterCommand::Set, _), Before::Pair) => Some(Form::PairAndRegister),
-        (Item::SetText(..), Before::Number) => Some(Form::NumberedText),
+        (Item::Register(RegisterCommand::Set, _), Before::Pair) => {
+            in_named(profile, Form::PairAndRegister)
+        }
+        (Item::SetText(..), Before::Number) => in_named(profile, Form::NumberedText),
         (Item::Text(TextCommand::Search, _), Before::Pair) => Some(Form::BoundedSearch),
         _ => None,
     }
 }
 
-/// The form of a token with this before it, if it is left out.
-pub(crate) fn form_of(token: &Token, before: Before) -> Option<Form> {
+/// The form of a token with this before it, if the profile leaves it out.
+pub(crate) fn form_of(profile: Profile, token: &Token, before: Before) -> Option<Form> {
     match token.kind {
-        TokenKind::Item(item) => form_of_item(item, before),
+        TokenKind::Item(item) => form_of_item(profile, item, before),
         _ => None,
     }
 }

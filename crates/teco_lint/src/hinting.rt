@@ -80,7 +80,7 @@ impl Hinting {
         match command {
             TextCommand::SearchPages | TextCommand::SearchPagesQuietly => self.has_page = true,
             TextCommand::Go if self.has_number => return Some(Hint::NumberBeforeJump),
-            TextCommand::Search => {}
+            TextCommand::Search | TextCommand::FindAndDelete | TextCommand::FindAndKill => {}
             _ => return None,
         }
         of_search_text(alloc, text)
@@ -117,7 +117,7 @@ impl Hinting {
         given: &[bool; REGISTERS],
     ) -> Option<Hint> {
         let is_after = self.after_exit;
-        let form = form_of(token, self.before);
+        let form = form_of(self.profile, token, self.before);
         match token.kind {
             TokenKind::Escape => return None,
             TokenKind::Tag(_) => {
@@ -263,14 +263,14 @@ pub(crate) fn push_hints(
     Ok(())
 }
 
-/// Puts the hints on the whole at the end, that on its rest first. Past a fault nothing was looked for, so what lacks is told of no
-/// faulty text.
+/// Puts the hints on the whole at the end, that on its rest first. Past a fault nothing was looked for, and what no check looks into may
+/// read a page or end the run. So what lacks is told of clean texts alone.
 pub(crate) fn push_last_hints(
     remarks: &mut Vec<Remark>,
     hinting: &Hinting,
     commands: &[u8],
     rest: Option<Hint>,
-    faulty: bool,
+    is_unclean: bool,
 ) -> Result<(), NoMemory>
     ensures kept { (test : Remark → Bool) → IsTold test remarks.old.items → OnOk result (IsTold test remarks.new.items) }
 {
@@ -278,7 +278,7 @@ pub(crate) fn push_last_hints(
     if let Some(hint) = rest {
         push_hint(remarks, end, hint)?;
     }
-    if faulty || filler_end(commands, 0) == end {
+    if is_unclean || filler_end(commands, 0) == end {
         return Ok(());
     }
     if !hinting.has_page {

@@ -2,6 +2,7 @@
 ghost use Rattle.std.specs.Prelude.{◌≡◌, ◌≤◌, length, IfSome};
 
 use crate::forms::Form;
+use crate::naming::modifiers_len;
 use teco_core::Profile;
 
 /// What follows the name of a command that is left out.
@@ -66,15 +67,12 @@ static WITH_E: [LeftOut; 13] = rows! {
 };
 
 /// The commands with `F`.
-static WITH_F: [LeftOut; 12] = rows! {
-    TwoTexts "::FS" "replaces the text at the pointer" "::Sone$\"S -nD Itwo$'";
+static WITH_F: [LeftOut; 9] = rows! {
     TwoTexts "FN" "replaces on this page or a later one" "None$ and then -nD Itwo$";
     TwoTexts "F_" "replaces, and drops the pages" "<:Sone$\"S0;' HK ^N\"NSone$' Y> and then -nD Itwo$";
     TwoTexts "FC" "replaces between two places" ":Sone$, a test of ., and then -nD Itwo$";
     Text "FR" "replaces what was found or put in last" "FSone$two$ at the search itself";
     Text "FB" "looks between two places" ":Stext$ and a test of .";
-    Text "FK" "deletes up to a text" "[1 .U1 Stext$ Q1,.K ]1";
-    Text "FD" "deletes the next text" "@FS/text//";
     Nothing "F<" "goes to the beginning of the iteration" "a tag after <, and Oname$";
     Nothing "F>" "goes to the end of the iteration" "a tag before >, and Oname$";
     Nothing "F'" "goes to the end of the conditional" "a tag after ', and Oname$";
@@ -82,7 +80,10 @@ static WITH_F: [LeftOut; 12] = rows! {
 };
 
 /// The commands that the wider language has.
-static IN_WIDE: [LeftOut; 9] = rows! {
+static IN_WIDE: [LeftOut; 15] = rows! {
+    TwoTexts "::FS" "replaces the text at the pointer" "--wide, or ::Sone$\"S -nD Itwo$'";
+    Text "FK" "deletes up to a text" "--wide, or [1 .U1 Stext$ Q1,.K ]1";
+    Text "FD" "deletes the next text" "--wide, or @FS/text//";
     Register ":X" "appends lines to a register" "--wide, or Gq and Xq over both";
     RegisterAndText ":^U" "appends a text to a register" "--wide, or Gq, the text by I, and Xq over both";
     Nothing ":;" "leaves where the last search found its text" "--wide, or \"S0;' after a search with a colon";
@@ -92,6 +93,9 @@ static IN_WIDE: [LeftOut; 9] = rows! {
     Nothing "\"=" "tests for 0" "--wide, or \"E";
     Nothing "\"<" "tests for less than 0" "--wide, or \"L";
     Nothing "\">" "tests for more than 0" "--wide, or \"G";
+    Nothing "\"C" "tests for a byte of a name" "--wide, or \"R, and tests of the other bytes";
+    Nothing "===" "prints in hexadecimal" "--wide, or == in octal";
+    Nothing "^Q" "gives how many bytes n lines have" "--wide, or nL for n^QC, and nK for n^QD";
 };
 
 /// The other commands with a colon.
@@ -106,9 +110,7 @@ static WITH_COLON: [LeftOut; 7] = rows! {
 };
 
 /// The others.
-static OTHERS: [LeftOut; 17] = rows! {
-    Nothing "\"C" "tests for a byte of a name" "\"R, and tests of the other bytes";
-    Nothing "===" "prints in hexadecimal" "== prints in octal";
+static OTHERS: [LeftOut; 14] = rows! {
     Nothing "^B" "gives the date" "leave it out";
     Nothing "^C" "ends, and writes nothing" "Oend$, with !end! after the last EX";
     Nothing "^D" "sets numbers to decimal" "leave it out";
@@ -117,7 +119,6 @@ static OTHERS: [LeftOut; 17] = rows! {
     Nothing "^L" "prints a form feed" "12^T";
     Nothing "^O" "sets numbers to octal" "write them in decimal";
     Nothing "^R" "sets the base of numbers" "write them in decimal";
-    Nothing "^Q" "gives how many bytes n lines have" "nL for n^QC, and nK for n^QD";
     Nothing "^S" "gives minus the length of what was found or put in last" "note . before and after it";
     Nothing "^Y" "gives the pair of what was found or put in last" "note . before and after it";
     Nothing "^Z" "gives the room of the registers" "leave it out";
@@ -126,14 +127,14 @@ static OTHERS: [LeftOut; 17] = rows! {
     Nothing "W" "shows the screen" "nT, or teco-term";
 };
 
-/// Forms of commands that are here.
+/// Forms of commands that are here. The first three are left out of Named alone.
 static FORMS: [LeftOut; 8] = rows! {
-    Register "nQ" "gives the code of byte n of a text" "Gq, and nA where it stands";
-    Register "m,nU" "sets n, and gives m" "nUq, and mUr";
+    Register "nQ" "gives the code of byte n of a text" "--wide, or Gq, and nA where it stands";
+    Register "m,nU" "sets n, and gives m" "--wide, or nUq, and mUr";
+    RegisterAndText "n^U" "puts a byte into a register" "--wide, or nI$ and .-1,.Xq";
     Nothing "^T alone" "reads a byte of the terminal" "nothing";
     Nothing "nV" "types lines on each side" "1-nT nT";
     Nothing "nPW" "writes the page n times" "n<PW>";
-    RegisterAndText "n^U" "puts a byte into a register" "nI$ and .-1,.Xq";
     Text "m,nS" "looks for a text that begins within a bound" ":Stext$ and a test of .";
     Nothing "^X alone" "gives whether searches tell the cases apart" "a register that says it";
 };
@@ -143,14 +144,17 @@ pub(crate) fn row_of_form(form: Form) -> &'static LeftOut {
     match form {
         Form::NumberAndRegister => &FORMS[0],
         Form::PairAndRegister => &FORMS[1],
-        Form::TypeByteAlone => &FORMS[2],
-        Form::NumberedView => &FORMS[3],
-        Form::NumberedWrite => &FORMS[4],
-        Form::NumberedText => &FORMS[5],
+        Form::NumberedText => &FORMS[2],
+        Form::TypeByteAlone => &FORMS[3],
+        Form::NumberedView => &FORMS[4],
+        Form::NumberedWrite => &FORMS[5],
         Form::BoundedSearch => &FORMS[6],
         Form::CaseModeAlone => &FORMS[7],
     }
 }
+
+/// The most modifiers that a command may have.
+const MOST_MODIFIERS: usize = 3;
 
 /// Whether a byte is a letter in either case, where that is a capital; or the byte itself.
 fn is_letter(byte: u8, written: u8) -> bool {
@@ -218,17 +222,28 @@ fn row_as_written(profile: Profile, bytes: &[u8]) -> Option<(&'static LeftOut, u
     row_in(&OTHERS, bytes)
 }
 
-/// The row of the command that the bytes begin with, if the profile leaves it out, and the length of its name. Where no row has the colon of a
-/// command, its row is that of the name alone: in TECO-11 most commands take one, and give whether they could.
+/// Whether an @ may come before a command with these operands: they have a text.
+fn have_text(takes: Operands) -> bool {
+    matches!(
+        takes,
+        Operands::Text | Operands::RegisterAndText | Operands::TwoTexts
+    )
+}
+
+/// The row of the command that the bytes begin with, if the profile leaves it out, and the length of its modifiers and its name. Where no row
+/// has the modifiers of a command, its row is that of the name alone: in TECO-11 most commands take a colon, and give whether they could.
 pub(crate) fn row_of(profile: Profile, bytes: &[u8]) -> Option<(&'static LeftOut, usize)>
     ensures { IfSome result (λ found. found.1 ≤ length bytes.now) }
 {
-    if let Some(found) = row_as_written(profile, bytes) {
-        return Some(found);
+    let modifiers = modifiers_len(bytes).min(MOST_MODIFIERS);
+    let mut has_at = false;
+    for at in 0..=modifiers {
+        if let Some((row, len)) = row_as_written(profile, &bytes[at..])
+            && (!has_at || have_text(row.takes))
+        {
+            return Some((row, at + len));
+        }
+        has_at |= at < bytes.len() && bytes[at] == b'@';
     }
-    let [b':', after @ ..] = bytes else {
-        return None;
-    };
-    let (row, len) = row_as_written(profile, after)?;
-    Some((row, len + 1))
+    None
 }

@@ -18,9 +18,9 @@ mod sentences;
 mod spelling;
 
 pub use calling::register_at;
-pub use checking::{Advice, check, check_over, check_text};
+pub use checking::{Advice, Flaws, check, check_over, check_text};
 pub use forms::Form;
-pub use remarks::{FaultIn, Hint, Remark, What};
+pub use remarks::{FaultIn, Hint, Remark, What, tells_fault};
 pub use reporting::{report, report_part};
 pub use sentences::show_remark;
 pub use spelling::{is_misspelt, is_misspelt_text};

@@ -1,9 +1,12 @@
 //! Remarks on commands.
+ghost use Rattle.std.specs.Prelude.{◌≡◌};
+ghost use Rattle.teco_lint.specs.Told.{ends_run, tells_fault};
+
 use crate::forms::Form;
 use teco_check::Wrong;
 use teco_scan::Span;
 
-/// A fault, and the text in which it is: a command string, or a text that one puts where code is.
+/// A fault or what no check looks into, and the text in which it is: a command string, or a text that one puts where code is.
 #[derive(Clone, Copy)]
 pub struct FaultIn {
     /// The place of the token.
@@ -55,4 +58,21 @@ pub enum What {
 pub struct Remark {
     pub at: usize,
     pub what: What,
+}
+
+/// Whether a run that comes to it ends by its code. What no check looks into may be fine.
+pub(crate) fn ends_run(wrong: Wrong) -> bool
+    ensures { result ≡ ends_run wrong }
+{
+    !matches!(wrong, Wrong::Calls | Wrong::Loads | Wrong::InText)
+}
+
+/// Whether a remark tells of a fault, and not of what no check looks into.
+pub fn tells_fault(remark: &Remark) -> bool
+    ensures { result ≡ tells_fault remark.now }
+{
+    match remark.what {
+        What::Fault(fault) => ends_run(fault.wrong),
+        _ => false,
+    }
 }

@@ -61,7 +61,7 @@ fn show_no_end(out: &mut String, bytes: &[u8]) -> Result<(), NoMemory> {
     let rest = &bytes[name.len().min(bytes.len())..];
     match bare_name_of(bytes) {
         [b'!'] => out.push_str("the tag has no ! after its name"),
-        [b'F' | b'f', _] if memchr(ESC, rest).is_some() => out.push_str(
+        [b'F' | b'f', b'S' | b's'] if memchr(ESC, rest).is_some() => out.push_str(
             "the second text of FS has no ESC; two ESC end the command string",
         ),
         [1] | [b'^', b'A' | b'a'] => out.push_str("the text of ^A has no ^A"),
@@ -93,7 +93,7 @@ fn show_left_out(out: &mut String, row: &LeftOut) -> Result<(), NoMemory> {
 fn tests_of(profile: Profile) -> &'static str {
     match profile {
         Profile::Named => "after \" comes a letter of E F U N G L S T A D R V W",
-        Profile::Wide => "after \" comes a letter of E F U N G L S T A D R V W, or = < >",
+        Profile::Wide => "after \" comes a letter of E F U N G L S T A D R V W C, or = < >",
     }
 }
 
@@ -243,7 +243,7 @@ fn show_wrong(
     }
 }
 
-/// Shows a fault: its code, and what is wrong.
+/// Shows a fault: its code, and what is wrong. Of what no check looks into it is a hint that says so.
 fn show_fault(
     out: &mut String,
     commands: Text<'_>,
@@ -252,7 +252,7 @@ fn show_fault(
 ) -> Result<(), NoMemory> {
     let begun = match code_of(fault.wrong) {
         Some(code) => write!(out, "{code}: "),
-        None => out.push_str("not checked: "),
+        None => out.push_str("hint: not checked: "),
     };
     begun?;
     let at = fault.at.saturating_sub(fault.inside.from);

@@ -5,7 +5,6 @@ use Rattle.teco_core.specs.declared.code.Code.TheVariants.{Utc}
 use Rattle.std.proofs.Math.Seq.{take-append_seam}
 use Rattle.std.proofs.lemmas.List.{take_rest, drop-drop}
 use Rattle.teco_core.specs.declared.profile.Profile.{Profile}
-use Rattle.teco_core.specs.declared.profile.Profile.TheVariants.{Named}
 use Rattle.teco_core.specs.Ascii.{is_digit}
 use Rattle.teco_scan.specs.Scan.{text_at, run_of, after_run, after_fillers, token_from, rows_of, scan, scan_here, scanned}
 

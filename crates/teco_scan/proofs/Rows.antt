@@ -1,5 +1,5 @@
 -- What is found in some texts, and the trees of some, by computing.
-use Rattle.std.specs.Prelude.{◌≡◌, ℕ, zero, suc, ◌+◌, Bool, true, false, ◌&&◌, ◌||◌, List, [], ◌∷◌, ◌++◌, map, filter, codes, ◌==◌, if◌then◌else◌}
+use Rattle.std.specs.Prelude.{◌≡◌, ℕ, zero, suc, ◌+◌, Bool, true, false, not, ◌&&◌, ◌||◌, List, [], ◌∷◌, ◌++◌, map, filter, codes, ◌==◌, if◌then◌else◌}
 use Rattle.std.specs.List.{list_any}
 use Rattle.std.proofs.Common.{refl}
 use Prim.Native.String.{String}
@@ -20,7 +20,7 @@ use Rattle.teco_scan.specs.declared.command.Name.{Name}
 use Rattle.teco_scan.specs.declared.command.Name.TheVariants.{One, Control}
 use Rattle.teco_scan.specs.declared.table.TheConstants.{ROWS}
 use Rattle.teco_scan.specs.Table.{is_alone}
-use Rattle.teco_scan.specs.Scan.{digits, bare, register, text, set_text, Instruction, step, mark, decide, tag, Scanned, found, ended, fault, no_modifiers, test_of, byte_at, register_at, test_at, delimiter_at, text_at, operand_at, modifiers_at, after_letter, after_name, ends_inside, row_at, is_cut, command_at, run_of, after_run, token_from, after_fillers, scan}
+use Rattle.teco_scan.specs.Scan.{digits, bare, register, text, set_text, Instruction, step, mark, decide, tag, Scanned, found, ended, fault, no_modifiers, test_of, byte_at, register_at, test_at, delimiter_at, text_at, operand_at, modifiers_at, after_letter, after_name, ends_inside, is_refused, row_at, is_cut, command_at, run_of, after_run, token_from, after_fillers, scan}
 use Rattle.teco_scan.specs.Scan as token
 
 -- all that reading computes with
@@ -330,6 +330,6 @@ is_lone_name b (Control l) = b + 64 == l
 is_lone_name b _ = false
 
 -- The bytes that are a token alone are the digits, and those names after which nothing follows.
-single_bytes : filter (λ b. is_token (scan Named (b ∷ []))) (up_to 256) ≡ filter (λ b. is_digit b || list_any (λ r. is_lone_name b r.name && is_alone r.form) ROWS) (up_to 256)
+single_bytes : filter (λ b. is_token (scan Named (b ∷ []))) (up_to 256) ≡ filter (λ b. is_digit b || list_any (λ r. is_lone_name b r.name && is_alone r.form && not (is_refused r.form)) ROWS) (up_to 256)
 unfolding computing up_to is_token is_lone_name
 single_bytes = refl

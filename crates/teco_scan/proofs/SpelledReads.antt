@@ -139,6 +139,13 @@ control_same {l = l} rest more okk okl (control_spelled {l = k} {b = b} e) (care
 control_same {k = k} rest more okk okl (caret_spelled {b = b} e) (control_spelled {l = l} {b = c} f) same = let here : 94 ≡ c = cc in absurd (omega (arith, leb-true l 94 (both _ _ okl).1))
 control_same {k = k} {l = l} rest more okk okl (caret_spelled {b = b} e) (caret_spelled {b = c} f) same = let here : b ≡ c = cc in eq-eqb k l (sym e ∙ ap upper here ∙ f)
 
+-- two names of two letters that the same bytes begin with have the same letters
+letters_same : {k j l i : ℕ} {bs cs : List ℕ} (rest more : List ℕ) → SpellsName (Two k j) bs → SpellsName (Two l i) cs → bs ++ rest ≡ cs ++ more → (eqb k l && eqb j i) ≡ true
+letters_same {k = k} {j = j} {l = l} {i = i} rest more (two_spelled {b = b} {c = c} e f) (two_spelled {b = d} {c = g} h m) same =
+    let first : b ≡ d = cc in
+    let second : c ≡ g = cc in
+    rw (eq-eqb k l (sym e ∙ ap upper first ∙ h), eq-eqb j i (sym f ∙ ap upper second ∙ m))
+
 begins_so : {n : Name} {bs : List ℕ} → SpellsName n bs → (rest : List ℕ) → FirstIs (begins_with n) (bs ++ rest)
 begins_so (one_spelled {l = l} {b = b} e) rest = eq-eqb (upper b) l e
 begins_so (two_spelled {l = l} {b = b} e f) rest = eq-eqb (upper b) l e
@@ -153,7 +160,10 @@ meet (Control k) (One l) bs cs rest more oks okr named other same = any_first (b
 meet (Control k) (Two l j) bs cs rest more oks okr named other same = any_first (begins_with (Control k)) other more (subst (FirstIs (begins_with (Control k))) same (begins_so named rest))
 meet (Control k) (Three l j i) bs cs rest more oks okr named other same = any_first (begins_with (Control k)) other more (subst (FirstIs (begins_with (Control k))) same (begins_so named rest))
 meet (One k) r bs cs rest more oks okr named other same = any_first (begins_with (One k)) other more (subst (FirstIs (begins_with (One k))) same (begins_so named rest))
-meet (Two k j) r bs cs rest more oks okr named other same = any_first (begins_with (Two k j)) other more (subst (FirstIs (begins_with (Two k j))) same (begins_so named rest))
+meet (Two k j) (Two l i) bs cs rest more oks okr named other same = letters_same rest more named other same
+meet (Two k j) (One l) bs cs rest more oks okr named other same = any_first (begins_with (Two k j)) other more (subst (FirstIs (begins_with (Two k j))) same (begins_so named rest))
+meet (Two k j) (Three l i h) bs cs rest more oks okr named other same = any_first (begins_with (Two k j)) other more (subst (FirstIs (begins_with (Two k j))) same (begins_so named rest))
+meet (Two k j) (Control l) bs cs rest more oks okr named other same = any_first (begins_with (Two k j)) other more (subst (FirstIs (begins_with (Two k j))) same (begins_so named rest))
 meet (Three k j i) r bs cs rest more oks okr named other same = any_first (begins_with (Three k j i)) other more (subst (FirstIs (begins_with (Three k j i))) same (begins_so named rest))
 
 -- of two names that meet the one with more letters has more bytes

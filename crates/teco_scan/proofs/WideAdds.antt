@@ -1,6 +1,6 @@
 -- What is read in Wide is read in Named, or is ILL or IQC there.
 use Rattle.std.proofs.Common.{◌≡◌, ℕ, zero, suc, ◌+◌, ◌≤◌, Bool, true, false, cond, List, [], ◌∷◌, map, Option, Some, None, Ok, Err, ◌⊎◌, inl, inr, refl, sym, ap, subst, ◌∙◌, arith, leb-true}
-use Rattle.std.specs.Prelude.{◌&&◌, ◌||◌, not, ◌==◌, if◌then◌else◌, nat_le}
+use Rattle.std.specs.Prelude.{◌&&◌, ◌||◌, not, ◌==◌, if◌then◌else◌, nat_le, option_and_then}
 use Rattle.std.specs.List.{list_all, list_any}
 use Rattle.std.proofs.lemmas.Bool.{le-leb, eqb-true}
 use Rattle.teco_core.specs.declared.code.Code.TheVariants.{Ill, Iqc, Utc}
@@ -15,7 +15,7 @@ use Rattle.teco_scan.specs.declared.command.Form.TheVariants as form
 use Rattle.teco_scan.specs.declared.command.Test.{Test}
 use Rattle.teco_core.specs.declared.profile.Profile.TheVariants.{Named, Wide}
 use Rattle.teco_scan.specs.declared.table.TheConstants.{ROWS, WIDE_ROWS}
-use Rattle.teco_scan.specs.Scan.{decide, Reading, Instruction, TokenMeaning, found, fault, scanned, no_modifiers, or_else, or_sign, letter_test, scan_here, scan, test_of, test_at, byte_at, operand_at, admits, after_letter, after_name, ends_inside, is_refused, at_row, row_at, is_cut, modifiers_at, begins_run, token_from, after_fillers}
+use Rattle.teco_scan.specs.Scan.{decide, Reading, Instruction, TokenMeaning, found, fault, scanned, no_modifiers, or_else, or_more, letter_test, scan_here, scan, test_of, test_at, byte_at, operand_at, admits, after_letter, after_name, ends_inside, is_refused, at_row, row_at, is_cut, modifiers_at, begins_run, token_from, after_fillers}
 use Rattle.teco_scan.specs.FirstRow.{form_of, form_at, named_at, with_operand}
 use Rattle.teco_scan.specs.Led.{form_in}
 use Rattle.teco_scan.specs.Spelling.{Among}
@@ -23,7 +23,7 @@ use Rattle.teco_scan.specs.Table.{is_name, meets, begins_with, first_bytes}
 use Rattle.teco_scan.specs.Wide.{WideAdds}
 use Rattle.teco_scan.proofs.SpelledReads.{both, each, any_here, any_next, any_cased}
 use Rattle.teco_scan.proofs.FirstRow.{ordered, paired, token_named, begins_none}
-use Rattle.teco_scan.proofs.Wider.{has_colon, wide_row, wide_rows, still_admits, same_admits, not_later, is_free, are_named, names_well, rows_free, not_ok, run_token}
+use Rattle.teco_scan.proofs.Wider.{has_colon, wide_row, wide_rows, still_admits, same_admits, same_form, not_later, is_free, are_named, names_well, refused_is_ill, rows_free, not_ok, run_token}
 
 -- a row that Wide found, and that does not admit the modifiers in Named
 record Added (row : Row) (m : Modifiers) (bs : List ℕ) : Type 0 where
@@ -73,9 +73,13 @@ row_made (r ∷ rows) m bs x named free e = here (row_made rows m bs x names.1 f
         let same : (wide_row r, rest) ≡ x = cc in
         record { row = r; is = sym (ap (λ (x : Row × List ℕ). x.0) same); among = inl refl; way = inr (nothing rest h n (row_at rows m bs) refl, record { unlike = a; like = b; more = h; rest = rest; here = n }) }
 
--- No name that admits a colon in Named begins as one that does in Wide alone.
+-- A name that admits a colon in Named begins otherwise than one that does in Wide alone, is refused, or both have two letters.
+abbrev are_two : Name → Name → Bool
+are_two (Two l k) (Two i j) = true
+are_two n s = false
+
 abbrev is_other : Name → Row → Bool
-is_other n s = not (nat_le 1 s.allows.colons) || not (list_any (begins_with n) (first_bytes s.name))
+is_other n s = not (nat_le 1 s.allows.colons) || not (list_any (begins_with n) (first_bytes s.name)) || are_two n s.name
 
 rows_other : list_all (λ r. not (has_colon r.name) || list_all (is_other r.name) ROWS) ROWS ≡ true
 rows_other = refl
@@ -105,11 +109,26 @@ inside_begins (Three l k j) b (c ∷ d ∷ bs) e = absurd cc
 inside_begins (Control l) b [] e = ap (λ v. b + 64 == l || v) e ∙ or_true (b + 64 == l)
 inside_begins (Control l) b (c ∷ bs) e = absurd cc
 
+-- bytes that begin with two letters end inside no other two
+both_there : (n s : Name) (b : ℕ) (bs rest : List ℕ) → are_two n s ≡ true → after_name n (b ∷ bs) ≡ Some rest → ends_inside s (b ∷ bs) ≡ false
+unfolding after_name after_letter ends_inside
+both_there (Two l k) (Two i j) b (c ∷ bs) rest two here = refl
+both_there (Two l k) (Two i j) b [] rest two here = elim (upper b == l) as (λ v. option_and_then (after_letter k) (if v then Some [] else None) ≡ Some rest → (upper b == i) ≡ false) [
+  | true ↦ λ e. absurd cc
+  | false ↦ λ e. absurd cc
+] here
+both_there (Two l k) (One i) b bs rest two here = absurd cc
+both_there (Two l k) (Three i j h) b bs rest two here = absurd cc
+both_there (Two l k) (Control i) b bs rest two here = absurd cc
+both_there (One l) s b bs rest two here = absurd cc
+both_there (Three l k j) s b bs rest two here = absurd cc
+both_there (Control l) s b bs rest two here = absurd cc
+
 -- No name of a command that admits colons is cut there.
-uncut : (n : Name) (rows : List Row) (m : Modifiers) (b : ℕ) (bs : List ℕ) → nat_le 1 m.colons ≡ true → begins_with n b ≡ true → list_all (is_other n) rows ≡ true → is_cut rows m (b ∷ bs) ≡ false
+uncut : (n : Name) (rows : List Row) (m : Modifiers) (b : ℕ) (bs rest : List ℕ) → nat_le 1 m.colons ≡ true → begins_with n b ≡ true → after_name n (b ∷ bs) ≡ Some rest → list_all (is_other n) rows ≡ true → is_cut rows m (b ∷ bs) ≡ false
 unfolding is_cut
-uncut n [] m b bs some begins other = refl
-uncut n (r ∷ rows) m b bs some begins other = here (admits r m) refl (ends_inside r.name (b ∷ bs)) refl (uncut n rows m b bs some begins others.1)
+uncut n [] m b bs rest some begins there other = refl
+uncut n (r ∷ rows) m b bs rest some begins there other = here (admits r m) refl (ends_inside r.name (b ∷ bs)) refl (uncut n rows m b bs rest some begins there others.1)
   where
     others : (is_other n r ≡ true) × (list_all (is_other n) rows ≡ true)
     others = both (is_other n r) (list_all (is_other n) rows) other
@@ -123,7 +142,8 @@ uncut n (r ∷ rows) m b bs some begins other = here (admits r m) refl (ends_ins
     wrong : admits r m ≡ true → ends_inside r.name (b ∷ bs) ≡ true → ⊥
     wrong a inside =
         let any : list_any (begins_with n) (first_bytes r.name) ≡ true = any_begun (begins_with n) r.name b (inside_begins r.name b bs inside) begins in
-        let e : (not true || not true) ≡ true = subst (λ v. (not v || not true) ≡ true) (colon a) (subst (λ v. (not (nat_le 1 r.allows.colons) || not v) ≡ true) any others.0) in
+        let e : (not true || not true || are_two n r.name) ≡ true = subst (λ v. (not v || not true || are_two n r.name) ≡ true) (colon a) (subst (λ v. (not (nat_le 1 r.allows.colons) || not v || are_two n r.name) ≡ true) any others.0) in
+        let none : false ≡ true = sym (both_there n r.name b bs rest e there) ∙ inside in
         cc
 
     here : (v : Bool) → admits r m ≡ v → (w : Bool) → ends_inside r.name (b ∷ bs) ≡ w → is_cut rows m (b ∷ bs) ≡ false → (v && not (is_refused r.form) && w || is_cut rows m (b ∷ bs)) ≡ false
@@ -158,46 +178,56 @@ no_name (Control l) rest e = cc
 -- Such a row is of no name that is cut in Named.
 added_uncut : (row : Row) (m : Modifiers) (bs : List ℕ) → Among row ROWS → Added row m bs → is_cut ROWS m bs ≡ false
 added_uncut row m [] among added = absurd (no_name row.name added.rest added.here)
-added_uncut row m (b ∷ bs) among added = uncut row.name ROWS m b bs (some_colon row m added.unlike added.like) (begins (begins_with row.name b) refl)
+added_uncut row m (b ∷ bs) among added = uncut row.name ROWS m b bs added.rest (some_colon row m added.unlike added.like) (begins (begins_with row.name b) refl) added.here
     (subst (λ v. (not v || list_all (is_other row.name) ROWS) ≡ true) added.more (each (λ r. not (has_colon r.name) || list_all (is_other r.name) ROWS) ROWS row rows_other among))
   where
     begins : (v : Bool) → begins_with row.name b ≡ v → begins_with row.name b ≡ true
     begins true e = e
     begins false e = let wrong : None ≡ Some added.rest = sym (begins_none row.name b bs e) ∙ added.here in absurd cc
 
--- What is named in Wide is named in Named, or ILL.
-form_made : (m : Modifiers) (bs : List ℕ) (f : Form × List ℕ) → form_at WIDE_ROWS m bs ≡ Ok f → ((g : Form) × (f.0 ≡ form_in Wide g) × (form_at ROWS m bs ≡ Ok (g, f.1))) ⊎ (form_at ROWS m bs ≡ Err Ill)
+-- What is named in Wide is named in Named, where its name may be refused, or ILL.
+abbrev IsOf : Form → Form → Type 0
+IsOf f g = (is_refused g ≡ true) ⊎ (f ≡ form_in Wide g)
+
+made_of : (r : Row) → IsOf (wide_row r).form r.form
+made_of r = by (is_refused r.form) refl
+  where
+    by : (v : Bool) → is_refused r.form ≡ v → IsOf (wide_row r).form r.form
+    by true e = inl e
+    by false e = inr (same_form r e)
+
+form_made : (m : Modifiers) (bs : List ℕ) (f : Form × List ℕ) → form_at WIDE_ROWS m bs ≡ Ok f → ((g : Form) × IsOf f.0 g × (form_at ROWS m bs ≡ Ok (g, f.1))) ⊎ (form_at ROWS m bs ≡ Err Ill)
 form_made m bs f e = here (row_at (map wide_row ROWS) m bs) refl (sym (ap (λ (rows : List Row). form_at rows m bs) wide_rows) ∙ e)
   where
-    by : (x : Row × List ℕ) → (x.0.form, x.1) ≡ f → Made ROWS (row_at ROWS m bs) m bs x → ((g : Form) × (f.0 ≡ form_in Wide g) × (form_at ROWS m bs ≡ Ok (g, f.1))) ⊎ (form_at ROWS m bs ≡ Err Ill)
+    by : (x : Row × List ℕ) → (x.0.form, x.1) ≡ f → Made ROWS (row_at ROWS m bs) m bs x → ((g : Form) × IsOf f.0 g × (form_at ROWS m bs ≡ Ok (g, f.1))) ⊎ (form_at ROWS m bs ≡ Err Ill)
     by x same made = elim made.way [
-      | inl named ↦ inl (made.row.form, sym (ap (λ (f : Form × List ℕ). f.0) same) ∙ ap (λ (r : Row). r.form) made.is, ap (form_of ROWS m bs) named ∙ ap (λ (f : Form × List ℕ). Ok (made.row.form, f.1)) same)
+      | inl named ↦ inl (made.row.form, subst (λ (f : Form). IsOf f made.row.form) (sym (ap (λ (r : Row). r.form) made.is) ∙ ap (λ (f : Form × List ℕ). f.0) same) (made_of made.row), ap (form_of ROWS m bs) named ∙ ap (λ (f : Form × List ℕ). Ok (made.row.form, f.1)) same)
       | inr none ↦ inr (ap (form_of ROWS m bs) none.0 ∙ ap (λ v. if v then Err Utc else Err Ill) (added_uncut made.row m bs made.among none.1))
     ]
 
-    here : (o : Option (Row × List ℕ)) → row_at (map wide_row ROWS) m bs ≡ o → form_of (map wide_row ROWS) m bs o ≡ Ok f → ((g : Form) × (f.0 ≡ form_in Wide g) × (form_at ROWS m bs ≡ Ok (g, f.1))) ⊎ (form_at ROWS m bs ≡ Err Ill)
+    here : (o : Option (Row × List ℕ)) → row_at (map wide_row ROWS) m bs ≡ o → form_of (map wide_row ROWS) m bs o ≡ Ok f → ((g : Form) × IsOf f.0 g × (form_at ROWS m bs ≡ Ok (g, f.1))) ⊎ (form_at ROWS m bs ≡ Err Ill)
     here None is e = absurd (not_ok (is_cut (map wide_row ROWS) m bs) f e)
     here (Some x) is e = let same : (x.0.form, x.1) ≡ f = cc in by x same (row_made ROWS m bs x names_well rows_free is)
 
 abbrev IsMade : List ℕ → (Modifiers × Form) × List ℕ → Type 0
-IsMade bs x = ((g : Form) × (x.0.1 ≡ form_in Wide g) × (named_at ROWS bs ≡ Ok ((x.0.0, g), x.1))) ⊎ (named_at ROWS bs ≡ Err Ill)
+IsMade bs x = ((g : Form) × IsOf x.0.1 g × (named_at ROWS bs ≡ Ok ((x.0.0, g), x.1))) ⊎ (named_at ROWS bs ≡ Err Ill)
 
 named_made : (bs : List ℕ) (x : (Modifiers × Form) × List ℕ) → named_at WIDE_ROWS bs ≡ Ok x → IsMade bs x
 unfolding named_at
 named_made bs x e = here (modifiers_at no_modifiers bs) e
   where
-    by : (m : Modifiers × List ℕ) (f : Form × List ℕ) → ((m.0, f.0), f.1) ≡ x → ((g : Form) × (f.0 ≡ form_in Wide g) × (form_at ROWS m.0 m.1 ≡ Ok (g, f.1))) ⊎ (form_at ROWS m.0 m.1 ≡ Err Ill)
-        → ((g : Form) × (x.0.1 ≡ form_in Wide g) × (paired m.0 (form_at ROWS m.0 m.1) ≡ Ok ((x.0.0, g), x.1))) ⊎ (paired m.0 (form_at ROWS m.0 m.1) ≡ Err Ill)
-    by m f same (inl h) = inl (h.0, sym (ap (λ (x : (Modifiers × Form) × List ℕ). x.0.1) same) ∙ h.1, ap (paired m.0) h.2 ∙ ap (λ (x : (Modifiers × Form) × List ℕ). Ok ((x.0.0, h.0), x.1)) same)
+    by : (m : Modifiers × List ℕ) (f : Form × List ℕ) → ((m.0, f.0), f.1) ≡ x → ((g : Form) × IsOf f.0 g × (form_at ROWS m.0 m.1 ≡ Ok (g, f.1))) ⊎ (form_at ROWS m.0 m.1 ≡ Err Ill)
+        → ((g : Form) × IsOf x.0.1 g × (paired m.0 (form_at ROWS m.0 m.1) ≡ Ok ((x.0.0, g), x.1))) ⊎ (paired m.0 (form_at ROWS m.0 m.1) ≡ Err Ill)
+    by m f same (inl h) = inl (h.0, subst (λ (f : Form). IsOf f h.0) (ap (λ (x : (Modifiers × Form) × List ℕ). x.0.1) same) h.1, ap (paired m.0) h.2 ∙ ap (λ (x : (Modifiers × Form) × List ℕ). Ok ((x.0.0, h.0), x.1)) same)
     by m f same (inr h) = inr (ap (paired m.0) h)
 
     there : (m : Modifiers × List ℕ) (r : Reading Form) → form_at WIDE_ROWS m.0 m.1 ≡ r → paired m.0 r ≡ Ok x
-        → ((g : Form) × (x.0.1 ≡ form_in Wide g) × (paired m.0 (form_at ROWS m.0 m.1) ≡ Ok ((x.0.0, g), x.1))) ⊎ (paired m.0 (form_at ROWS m.0 m.1) ≡ Err Ill)
+        → ((g : Form) × IsOf x.0.1 g × (paired m.0 (form_at ROWS m.0 m.1) ≡ Ok ((x.0.0, g), x.1))) ⊎ (paired m.0 (form_at ROWS m.0 m.1) ≡ Err Ill)
     there m (Err c) is e = absurd cc
     there m (Ok f) is e = let same : ((m.0, f.0), f.1) ≡ x = cc in by m f same (form_made m.0 m.1 f is)
 
     here : (r : Reading Modifiers) → (r >>= (λ m. paired m.0 (form_at WIDE_ROWS m.0 m.1))) ≡ Ok x
-        → ((g : Form) × (x.0.1 ≡ form_in Wide g) × ((r >>= (λ m. paired m.0 (form_at ROWS m.0 m.1))) ≡ Ok ((x.0.0, g), x.1))) ⊎ ((r >>= (λ m. paired m.0 (form_at ROWS m.0 m.1))) ≡ Err Ill)
+        → ((g : Form) × IsOf x.0.1 g × ((r >>= (λ m. paired m.0 (form_at ROWS m.0 m.1))) ≡ Ok ((x.0.0, g), x.1))) ⊎ ((r >>= (λ m. paired m.0 (form_at ROWS m.0 m.1))) ≡ Err Ill)
     here (Err c) e = absurd cc
     here (Ok m) e = there m (form_at WIDE_ROWS m.0 m.1) refl e
 
@@ -217,7 +247,7 @@ unfolding test_at byte_at test_of
 test_made [] x e = absurd cc
 test_made (b ∷ bs) x e = here (letter_test (upper b)) e
   where
-    here : (o : Option Test) → asked bs (or_sign o (upper b)) ≡ Ok x → (asked bs o ≡ Ok x) ⊎ (asked bs o ≡ Err Iqc)
+    here : (o : Option Test) → asked bs (or_more o (upper b)) ≡ Ok x → (asked bs o ≡ Ok x) ⊎ (asked bs o ≡ Err Iqc)
     here (Some t) e = inl e
     here None e = inr refl
 
@@ -255,6 +285,10 @@ token_made bs t e = here (begins_run bs) refl
     none_made : begins_run bs ≡ false → (r : Reading TokenMeaning) → with_operand (named_at ROWS bs) ≡ r → token_from ROWS bs ≡ r
     none_made none r is = token_named ROWS bs none ∙ is
 
+    -- a refused name is ILL
+    refused : begins_run bs ≡ false → (n : (Modifiers × Form) × List ℕ) (g : Form) → is_refused g ≡ true → named_at ROWS bs ≡ Ok ((n.0.0, g), n.1) → IsAdded bs t
+    refused none n g had named = inr (inl (none_made none (Err Ill) (ap with_operand named ∙ ap (ordered n.0.0) (refused_is_ill g n.0.0 n.1 had))))
+
     operand : begins_run bs ≡ false → (n : (Modifiers × Form) × List ℕ) (g : Form) → n.0.1 ≡ form_in Wide g → named_at ROWS bs ≡ Ok ((n.0.0, g), n.1) → (r : Reading Instruction) → operand_at n.0.1 n.0.0 n.1 ≡ r → ordered n.0.0 r ≡ Ok t → IsAdded bs t
     operand none n g is named (Err c) read e = absurd cc
     operand none n g is named (Ok i) read e = elim (operand_made g n.0.0 n.1 i (sym (ap (λ (f : Form). operand_at f n.0.0 n.1) is) ∙ read)) [
@@ -265,7 +299,10 @@ token_made bs t e = here (begins_run bs) refl
     command : begins_run bs ≡ false → (r : Reading (Modifiers × Form)) → named_at WIDE_ROWS bs ≡ r → with_operand r ≡ Ok t → IsAdded bs t
     command none (Err c) is e = absurd cc
     command none (Ok n) is e = elim (named_made bs n is) [
-      | inl h ↦ operand none n h.0 h.1 h.2 (operand_at n.0.1 n.0.0 n.1) refl e
+      | inl h ↦ elim h.1 [
+        | inl had ↦ refused none n h.0 had h.2
+        | inr is ↦ operand none n h.0 is h.2 (operand_at n.0.1 n.0.0 n.1) refl e
+      ]
       | inr h ↦ inr (inl (none_made none (Err Ill) (ap with_operand h)))
     ]
 

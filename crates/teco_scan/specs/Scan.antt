@@ -68,22 +68,23 @@ letter_test b =
     else (if is_one_of (codes "V") b then Some tests.Lower
     else (if is_one_of (codes "W") b then Some tests.Upper else None))))))))
 
--- the test that a sign names
-abbrev pub sign_test : ℕ → Option Test
-sign_test b =
+-- the test that a sign names, or a capital in Wide alone
+abbrev pub more_test : ℕ → Option Test
+more_test b =
     if b == code "=" then Some tests.Zero
     else (if b == code "<" then Some tests.Below
-    else (if b == code ">" then Some tests.Above else None))
+    else (if b == code ">" then Some tests.Above
+    else (if b == code "C" then Some tests.NameByte else None)))
 
--- a sign names one where no letter does
-abbrev pub or_sign : Option Test → ℕ → Option Test
-or_sign (Some t) b = Some t
-or_sign None b = sign_test b
+-- where no letter does that it names in Named
+abbrev pub or_more : Option Test → ℕ → Option Test
+or_more (Some t) b = Some t
+or_more None b = more_test b
 
--- in Named a capital names a test, and in Wide a sign too
+-- in Named a capital names a test, and in Wide a sign and C too
 abbrev pub test_named : Profile → ℕ → Option Test
 test_named Named b = letter_test b
-test_named Wide b = or_sign (letter_test b) b
+test_named Wide b = or_more (letter_test b) b
 
 -- the test of a letter of either case, or of a sign
 unfoldable pub test_of : Profile → ℕ → Option Test

@@ -41,9 +41,10 @@ begins_with (Two l k) b = upper b == l
 begins_with (Three l k j) b = upper b == l
 begins_with (Control l) b = b + 64 == l || b == code "^"
 
--- some byte may begin both names
+-- Some bytes may begin both names: for two names of two letters the same two letters, else a first byte.
 abbrev pub meets : Name → Name → Bool
 meets (Control l) (Control k) = l == k
+meets (Two l k) (Two i j) = l == i && k == j
 meets s r = list_any (begins_with s) (first_bytes r)
 
 -- nothing follows the name

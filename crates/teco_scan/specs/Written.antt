@@ -1,6 +1,6 @@
 -- How each command of the table is written. The table is a definition: it says what commands there are, and nothing proves
 -- it right; these facts are what a reader can check it by. Each row has one here, in the order of their kinds.
-use Rattle.std.specs.Prelude.{◌≡◌, ℕ, ◌-◌, true, false, nat_le, List, [], ◌∷◌, ◌++◌, codes, map}
+use Rattle.std.specs.Prelude.{◌≡◌, ℕ, ◌-◌, true, false, not, nat_le, List, [], ◌∷◌, ◌++◌, codes, map}
 use Rattle.std.specs.List.{filter}
 use Rattle.teco_core.specs.declared.code.Code.TheVariants.{Ill}
 use Rattle.teco_core.specs.declared.number.Op.TheVariants.{Plus, Minus, Times, Over, And, Or}
@@ -15,11 +15,12 @@ use Rattle.teco_scan.specs.declared.command.RegisterCommand.TheVariants as regis
 use Rattle.teco_scan.specs.declared.command.TextCommand.TheVariants as texts
 use Rattle.teco_scan.specs.declared.command.BlockMark.TheVariants.{Iterate, EndIteration, Otherwise, EndTest}
 use Rattle.teco_scan.specs.declared.command.Test.TheVariants as tests
+use Rattle.teco_scan.specs.declared.command.Row.{Row}
 use Rattle.teco_scan.specs.declared.command.Name.{Name}
 use Rattle.teco_scan.specs.declared.command.Name.TheVariants.{One, Two, Three, Control}
 use Rattle.teco_core.specs.declared.profile.Profile.TheVariants.{Named}
 use Rattle.teco_scan.specs.declared.table.TheConstants.{ROWS}
-use Rattle.teco_scan.specs.Scan.{digits, bare, register, byte, text, set_text, replace, Instruction, step, mark, decide, tag, escape, TokenMeaning, found, fault, no_modifiers, scan}
+use Rattle.teco_scan.specs.Scan.{digits, bare, register, byte, text, set_text, replace, Instruction, step, mark, decide, tag, escape, TokenMeaning, found, fault, is_refused, no_modifiers, scan}
 use Prim.Native.Char.{code}
 use Rattle.teco_core.specs.declared.ascii.TheConstants.{ESC}
 
@@ -133,19 +134,26 @@ letters (Two a b) = a ∷ b ∷ []
 letters (Three a b c) = a ∷ b ∷ c ∷ []
 letters (Control a) = codes "^" ++ a ∷ []
 
--- the names of the rows before which an @ may stand, and of those before which so many colons may
+-- the rows that are commands: the name of another is refused
+abbrev pub commands : List Row → List Row
+commands rows = filter (λ r. not (is_refused r.form)) rows
+
+abbrev pub names : List Row → List (List ℕ)
+names rows = map (λ r. letters r.name) rows
+
+-- the names of the commands before which an @ may stand, and of those before which so many colons may
 abbrev pub admit_at : List (List ℕ)
-admit_at = map (λ r. letters r.name) (filter (λ r. r.allows.at) ROWS)
+admit_at = names (filter (λ r. r.allows.at) (commands ROWS))
 
 abbrev pub admit_colons : ℕ → List (List ℕ)
-admit_colons n = map (λ r. letters r.name) (filter (λ r. nat_le n r.allows.colons) ROWS)
+admit_colons n = names (filter (λ r. nat_le n r.allows.colons) (commands ROWS))
 
 -- Which commands admit modifiers, in the order of the rows; no other does.
 pub record ModifiersAreAdmitted : Type 0 where
-  pub at : admit_at ≡ codes "===" ∷ codes "^U" ∷ codes "O" ∷ codes "I" ∷ codes "S" ∷ codes "N" ∷ codes "_"
+  pub at : admit_at ≡ codes "^U" ∷ codes "O" ∷ codes "I" ∷ codes "S" ∷ codes "N" ∷ codes "_"
       ∷ codes "FS" ∷ codes "^A" ∷ []
-  pub one_colon : admit_colons 1 ≡ codes "===" ∷ codes "==" ∷ codes "=" ∷ codes "Q" ∷ codes "G" ∷ codes "S"
+  pub one_colon : admit_colons 1 ≡ codes "==" ∷ codes "=" ∷ codes "Q" ∷ codes "G" ∷ codes "S"
       ∷ codes "N" ∷ codes "_" ∷ codes "FS" ∷ []
-  pub two_colons : admit_colons 2 ≡ codes "===" ∷ codes "S" ∷ []
+  pub two_colons : admit_colons 2 ≡ codes "S" ∷ []
   pub no_more : admit_colons 3 ≡ []
   pub colon_Q_is_a_length : IsToken (codes ":Qa") (colon (step (register registers.Number 0)))

@@ -38,6 +38,8 @@ pub enum LevelCommand {
     Append,
     /// `\`, the number at the pointer, or a number inserted.
     Decimal,
+    /// `^Q`, in Wide how far a line is from the pointer.
+    Distance,
 }
 
 /// Commands that take arguments, and after whose name nothing follows.
@@ -65,6 +67,8 @@ pub enum Command {
     Print,
     /// `==`
     PrintOctal,
+    /// `===`, in Wide
+    PrintHexadecimal,
     /// `Y`
     NextPage,
     /// `P`
@@ -126,6 +130,10 @@ pub enum TextCommand {
     SearchPagesQuietly,
     /// `O`
     Go,
+    /// `FD`, in Wide
+    FindAndDelete,
+    /// `FK`, in Wide
+    FindAndKill,
 }
 
 /// What opens, divides and ends blocks, but for `"`, which has its test.
@@ -141,7 +149,7 @@ pub enum BlockMark {
     EndTest,
 }
 
-/// What `"` and a letter ask of a number.
+/// What `"` and a letter or a sign ask of a number.
 #[derive(Clone, Copy)]
 pub enum Test {
     /// `E`, `F` or `U`
@@ -162,6 +170,8 @@ pub enum Test {
     Lower,
     /// `W`, the code of an upper-case ASCII letter.
     Upper,
+    /// `C`, the code of a byte of a name: a letter, a digit, `.`, `$` or `_`.
+    NameByte,
 }
 
 /// What follows a command's name, and so what the command is.
@@ -179,7 +189,7 @@ pub enum Form {
     Byte,
     /// The letter of a test.
     Test,
-    /// The letter of a test, or `=`, `<` or `>`.
+    /// The letter of a test, `C` too, or `=`, `<` or `>`.
     WideTest,
     /// A text, up to this byte unless `@` comes before.
     Text(TextCommand, u8),

@@ -2,7 +2,7 @@
 ghost use Rattle.std.specs.Prelude.{◌≡◌, ◌+◌, ◌<◌, ◌≤◌, ℕ, length, drop, IfOk};
 ghost use Rattle.memchr.specs.Find.{IsFirstByte, is_byte};
 ghost use Rattle.teco_core.specs.Ascii.{upper};
-ghost use Rattle.teco_scan.specs.Scan.{letter_test, sign_test, test_of, byte_at, register_at, test_at, delimiter_at, text_at, operand_at};
+ghost use Rattle.teco_scan.specs.Scan.{letter_test, more_test, test_of, byte_at, register_at, test_at, delimiter_at, text_at, operand_at};
 ghost use Rattle.teco_scan.specs.Seen.{Gives, IsSpanIn, IsKindIn, IsKindPlaced, bytes_in, instruction_in};
 
 use crate::command::{Form, Modifiers, Test, TextCommand};
@@ -28,13 +28,14 @@ fn letter_test(b: u8) -> Option<Test>
     }
 }
 
-fn sign_test(b: u8) -> Option<Test>
-    ensures { result ≡ sign_test (upper b) }
+fn more_test(b: u8) -> Option<Test>
+    ensures { result ≡ more_test (upper b) }
 {
     match b.to_ascii_uppercase() {
         b'=' => Some(Test::Zero),
         b'<' => Some(Test::Below),
         b'>' => Some(Test::Above),
+        b'C' => Some(Test::NameByte),
         _ => None,
     }
 }
@@ -48,7 +49,7 @@ fn test_of(profile: Profile, b: u8) -> Option<Test>
         Profile::Named => letter_test(b),
         Profile::Wide => match letter_test(b) {
             Some(test) => Some(test),
-            None => sign_test(b),
+            None => more_test(b),
         },
     }
 }

@@ -36,7 +36,7 @@ macro_rules! commands {
     ($value:ident $($byte:literal)*) => {
         $value! {
             [$($byte)*]
-            Three(b'=', b'=', b'='), ANY, Form::Refused;
+            Three(b'=', b'=', b'='), COLON, Form::Refused => Form::Bare(Bare::Command(Command::PrintHexadecimal));
             Two(b'=', b'='), COLON, Form::Bare(Bare::Command(Command::PrintOctal));
             One(b'='), COLON, Form::Bare(Bare::Command(Command::Print));
             One(b'B'), NONE, Form::Bare(Bare::Quantity(Quantity::Beginning));
@@ -54,6 +54,7 @@ macro_rules! commands {
             One(b','), NONE, Form::Bare(Bare::Arithmetic(Arithmetic::Comma));
             Control(b'E'), NONE, Form::Bare(Bare::Quantity(Quantity::FormFeed));
             Control(b'N'), NONE, Form::Bare(Bare::Quantity(Quantity::InputEnd));
+            Control(b'Q'), NONE, Form::Refused => Form::Bare(Bare::Level(LevelCommand::Distance));
             Control(b'^'), NONE, Form::Byte;
             One(b'A'), NONE => COLON, Form::Bare(Bare::Level(LevelCommand::Append));
             One(b'\\'), NONE, Form::Bare(Bare::Level(LevelCommand::Decimal));
@@ -94,7 +95,9 @@ macro_rules! commands {
             One(b'S'), ANY, Form::Text(TextCommand::Search, ESC);
             One(b'N'), AT_AND_COLON, Form::Text(TextCommand::SearchPages, ESC);
             One(b'_'), AT_AND_COLON, Form::Text(TextCommand::SearchPagesQuietly, ESC);
-            Two(b'F', b'S'), AT_AND_COLON, Form::Replace;
+            Two(b'F', b'S'), AT_AND_COLON => ANY, Form::Replace;
+            Two(b'F', b'D'), AT_AND_COLON, Form::Refused => Form::Text(TextCommand::FindAndDelete, ESC);
+            Two(b'F', b'K'), AT_AND_COLON, Form::Refused => Form::Text(TextCommand::FindAndKill, ESC);
             Control(b'A'), AT, Form::Text(TextCommand::TypeOut, 1);
         }
     };
@@ -122,14 +125,15 @@ macro_rules! wide_rows {
 }
 
 /// The number of rows.
-const COUNT: usize = 60;
+const COUNT: usize = 63;
 
 /// Every command but the run of digits. The table is a definition: it says what commands there are. A longer name comes before one
 /// that begins it. Rows whose names begin with the same byte stand close together, since they are tried one after another from the
 /// first of them on.
 pub const ROWS: [Row; COUNT] = commands!(rows);
 
-/// The rows of Wide: the same, but that some allow a colon more, and that there are more tests.
+/// The rows of Wide: the same names, but that some allow a colon more, that there are more tests, and that a name that Named refuses is
+/// that of a command.
 pub const WIDE_ROWS: [Row; COUNT] = commands!(wide_rows);
 
 // The first row whose name may begin with the byte.

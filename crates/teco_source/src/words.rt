@@ -28,6 +28,7 @@ fn arithmetic_words(arithmetic: Arithmetic) -> &'static str {
 
 fn level_words(command: LevelCommand, colons: u8, has_number: bool) -> &'static str {
     match (command, has_number) {
+        (LevelCommand::Distance, _) => "n^Q  how many bytes nL would go forward",
         (LevelCommand::Append, false) if colons > 0 =>
             ":A  reads the next page after the text, and gives -1, or 0 where no input is left",
         (LevelCommand::Append, false) => "A  reads the next page after the text",
@@ -53,6 +54,8 @@ fn command_words(command: Command, colons: u8) -> &'static str {
         Command::Print => "n=  prints n in decimal, with CR LF",
         Command::PrintOctal if colons > 0 => "n:==  prints n in octal, without CR LF",
         Command::PrintOctal => "n==  prints n in octal, with CR LF",
+        Command::PrintHexadecimal if colons > 0 => "n:===  prints n in hexadecimal, without CR LF",
+        Command::PrintHexadecimal => "n===  prints n in hexadecimal, with CR LF",
         Command::NextPage if colons > 0 =>
             ":Y  reads the next page into an empty buffer, and gives -1, or 0 where no input is left",
         Command::NextPage => "Y  reads the next page into an empty buffer",
@@ -114,6 +117,13 @@ fn text_words(command: TextCommand, colons: u8, has_number: bool) -> &'static st
         TextCommand::SearchPagesQuietly if colons > 0 =>
             "n:_text$  looks on from page to page, writes none, and gives -1 or 0",
         TextCommand::SearchPagesQuietly => "n_text$  looks on from page to page, and writes none",
+        TextCommand::FindAndDelete if colons > 0 =>
+            "n:FDtext$  looks for the nth match, deletes it, and gives -1 or 0",
+        TextCommand::FindAndDelete => "nFDtext$  looks for the nth match, and deletes it",
+        TextCommand::FindAndKill if colons > 0 =>
+            "n:FKtext$  looks for the nth match, deletes what is between its end and the pointer, and gives -1 or 0",
+        TextCommand::FindAndKill =>
+            "nFKtext$  looks for the nth match, and deletes what is between its end and the pointer",
         TextCommand::Go => "Oname$  goes on after the tag",
     }
 }
@@ -137,7 +147,26 @@ fn test_words(test: Test) -> &'static str {
         Test::Digit => "n\"D  where n is the code of a digit",
         Test::LetterOrDigit => "n\"R  where n is the code of a letter or a digit",
         Test::Lower => "n\"V  where n is the code of a small letter",
+        Test::NameByte => "n\"C  where n is the code of a letter, a digit, . $ or _",
         Test::Upper => "n\"W  where n is the code of a capital",
+    }
+}
+
+fn set_text_words(colons: u8, has_number: bool) -> &'static str {
+    match (colons, has_number) {
+        (0, false) => "^Uqtext$  makes the text that of q",
+        (0, true) => "n^Uq$  makes the byte n the text of q",
+        (_, false) => ":^Uqtext$  appends the text to that of q",
+        (_, true) => "n:^Uq$  appends the byte n to the text of q",
+    }
+}
+
+fn replace_words(colons: u8) -> &'static str {
+    match colons {
+        0 => "nFSone$two$  looks for one, and puts two in its place",
+        1 => "n:FSone$two$  looks for one, puts two in its place, and gives -1 or 0",
+        _ =>
+            "::FSone$two$  puts two in the place of one where that is at the pointer, and gives -1, else 0",
     }
 }
 
@@ -151,11 +180,8 @@ fn item_words(item: Item, colons: u8, has_number: bool) -> &'static str {
         Item::Register(command, _) => register_words(command, colons),
         Item::Byte(_) => "^^x  the code of the byte x",
         Item::Text(command, _) => text_words(command, colons, has_number),
-        Item::SetText(..) if colons > 0 => ":^Uqtext$  appends the text to that of q",
-        Item::SetText(..) => "^Uqtext$  makes the text that of q",
-        Item::Replace(..) if colons > 0 =>
-            "n:FSone$two$  looks for one, puts two in its place, and gives -1 or 0",
-        Item::Replace(..) => "nFSone$two$  looks for one, and puts two in its place",
+        Item::SetText(..) => set_text_words(colons, has_number),
+        Item::Replace(..) => replace_words(colons),
     }
 }
 

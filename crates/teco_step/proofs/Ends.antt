@@ -1,6 +1,6 @@
 -- How the step of a token may end: by leaving an iteration only inside one, by a jump only to the name that the token has, by a call
 -- only where it calls, and by a further step only where it may have one.
-use Rattle.std.proofs.Common.{◌≡◌, sym, subst, refl, ℕ, List, Result, Ok, Err, ℤ, pos, Bool, true, false, cond, ◌⊎◌, inl, inr}
+use Rattle.std.proofs.Common.{◌≡◌, sym, subst, refl, ℕ, List, [], Result, Ok, Err, ℤ, pos, Bool, true, false, cond, ◌⊎◌, inl, inr}
 use Rattle.std.specs.Prelude.{int_le, ◌-ℤ◌}
 use Rattle.teco_core.specs.declared.code.Code.{Code}
 use Rattle.teco_core.specs.declared.code.Code.TheVariants as code
@@ -23,9 +23,9 @@ use Rattle.teco_step.specs.Effect.{effect, command_effect, bare_effect, register
 use Rattle.teco_step.specs.declared.next.Setting.{Setting}
 use Rattle.teco_step.specs.Step.{Attempt, Made, Action, goes, steers, goes_on, done_by, End, on, leave, go, call, again, stop, settled, ends, takes_none, takes_one_or}
 use Rattle.teco_step.specs.Control.{is_left}
-use Rattle.teco_step.specs.Searching.{search_or_compare, search_and_replace}
+use Rattle.teco_step.specs.Searching.{search_or_compare, search_and_replace, search_and_kill, replace}
 use Rattle.teco_step.specs.PageSearching.{search_pages}
-use Rattle.teco_step.proofs.Searches.{Searches, searches, replacement_searches}
+use Rattle.teco_step.proofs.Searches.{Searches, searches, replacement_searches, replace_searches, kill_searches}
 use Rattle.teco_step.proofs.PageSearches.{turned_searches, read_searches}
 use Rattle.teco_step.specs.Pages.{after_page, pages_left, with_output_in_limit, with_page_read, with_page_turned}
 use Rattle.teco_step.specs.declared.next.Work.{Work}
@@ -103,13 +103,15 @@ text_ends text_command.Go text w = λ s a. ends_then w.inside (token.text text_c
 text_ends text_command.Search text w = λ s a. search_ends w.inside (token.text text_command.Search text) s (search_or_compare text w s a) (searches false text w s a)
 text_ends text_command.SearchPages text w = λ s a. search_ends w.inside (token.text text_command.SearchPages text) s (search_pages with_page_turned text w s a) (turned_searches text w s a)
 text_ends text_command.SearchPagesQuietly text w = λ s a. search_ends w.inside (token.text text_command.SearchPagesQuietly text) s (search_pages with_page_read text w s a) (read_searches text w s a)
+text_ends text_command.FindAndDelete text w = λ s a. search_ends w.inside (token.text text_command.FindAndDelete text) s (search_and_replace text [] w s a) (replacement_searches false text [] w s a)
+text_ends text_command.FindAndKill text w = λ s a. search_ends w.inside (token.text text_command.FindAndKill text) s (search_and_kill text w s a) (kill_searches false text w s a)
 text_ends _ text w = tt
 
 item_ends : (i : Item) (w : Setting) → ActionMayEnd w.inside i (item_effect i w)
 item_ends (token.bare b) w = bare_ends b w
 item_ends (token.register c q) w = register_ends c q w
 item_ends (token.text c text) w = text_ends c text w
-item_ends (token.replace old new) w = λ s a. search_ends w.inside (token.replace old new) s (search_and_replace old new w s a) (replacement_searches false old new w s a)
+item_ends (token.replace old new) w = λ s a. search_ends w.inside (token.replace old new) s (replace old new w s a) (replace_searches false old new w s a)
 item_ends _ w = tt
 
 settled_ends : (inside : Bool) (i : Item) (t : Attempt) (s : State) (a : Arguments) → AttemptMayEnd inside i t → MayEnd inside i (settled s a t).end

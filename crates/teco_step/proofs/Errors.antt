@@ -23,10 +23,10 @@ use Rattle.teco_step.specs.Control.{is_left}
 use Rattle.teco_step.specs.Pages.{after_page, pages_left, with_output_in_limit, with_page_read, with_page_turned}
 use Rattle.teco_step.specs.declared.next.Setting.{Setting}
 use Rattle.teco_step.specs.Step.{Attempt, Made, Action, End, goes, steers, goes_on, done_by, on, leave, again, stop, settled, ends, takes_none, takes_one_or}
-use Rattle.teco_step.specs.Searching.{search_or_compare, search_and_replace}
+use Rattle.teco_step.specs.Searching.{search_or_compare, search_and_replace, search_and_kill, replace}
 use Rattle.teco_step.specs.PageSearching.{search_pages}
 use Rattle.teco_step.specs.declared.next.Work.{Work}
-use Rattle.teco_step.proofs.Searches.{Searches, searches, replacement_searches}
+use Rattle.teco_step.proofs.Searches.{Searches, searches, replacement_searches, replace_searches, kill_searches}
 use Rattle.teco_step.proofs.PageSearches.{turned_searches, read_searches}
 
 -- the code of an error
@@ -92,13 +92,15 @@ text_stops text_command.Go text w = λ s a. stops_then (takes_none a) _ (λ none
 text_stops text_command.Search text w = λ s a. search_stops false s (search_or_compare text w s a) (searches false text w s a)
 text_stops text_command.SearchPages text w = λ s a. search_stops true s (search_pages with_page_turned text w s a) (turned_searches text w s a)
 text_stops text_command.SearchPagesQuietly text w = λ s a. search_stops true s (search_pages with_page_read text w s a) (read_searches text w s a)
+text_stops text_command.FindAndDelete text w = λ s a. search_stops false s (search_and_replace text [] w s a) (replacement_searches false text [] w s a)
+text_stops text_command.FindAndKill text w = λ s a. search_stops false s (search_and_kill text w s a) (kill_searches false text w s a)
 text_stops _ text w = tt
 
 item_stops : (i : Item) (w : Setting) → ActionStops (item_effect i w)
 item_stops (token.bare b) w = bare_stops b w
 item_stops (token.register c q) w = register_stops c q w
 item_stops (token.text c text) w = text_stops c text w
-item_stops (token.replace old new) w = λ s a. search_stops false s (search_and_replace old new w s a) (replacement_searches false old new w s a)
+item_stops (token.replace old new) w = λ s a. search_stops false s (replace old new w s a) (replace_searches false old new w s a)
 item_stops _ w = tt
 
 some_is : {A : Type 0} (x y : A) → Some x ≡ Some y → x ≡ y

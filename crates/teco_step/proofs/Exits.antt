@@ -25,9 +25,9 @@ use Rattle.teco_step.specs.Editing.{with_text_in_limit}
 use Rattle.teco_step.specs.Pages.{after_page, is_asked, pages_left, tells, with_output_in_limit, with_page_read, with_page_turned}
 use Rattle.teco_step.specs.declared.next.Setting.{Setting}
 use Rattle.teco_step.specs.Step.{Attempt, Made, Action, goes, steers, goes_on, done_by, on, leave, out, settled, ends, takes_none, takes_one_or}
-use Rattle.teco_step.specs.Searching.{search_or_compare, search_and_replace}
+use Rattle.teco_step.specs.Searching.{search_or_compare, search_and_replace, search_and_kill, replace}
 use Rattle.teco_step.specs.PageSearching.{search_pages}
-use Rattle.teco_step.proofs.Searches.{Searches, searches, replacement_searches}
+use Rattle.teco_step.proofs.Searches.{Searches, searches, replacement_searches, replace_searches, kill_searches}
 use Rattle.teco_step.proofs.PageSearches.{turned_searches, read_searches}
 
 -- it left the session as done as it was, unless it ends by an exit
@@ -98,13 +98,15 @@ text_keeps text_command.Go text w = λ s a. keeps_then s (takes_none a) _ (λ no
 text_keeps text_command.Search text w = λ s a. search_keeps false s (search_or_compare text w s a) (searches false text w s a)
 text_keeps text_command.SearchPages text w = λ s a. search_keeps true s (search_pages with_page_turned text w s a) (turned_searches text w s a)
 text_keeps text_command.SearchPagesQuietly text w = λ s a. search_keeps true s (search_pages with_page_read text w s a) (read_searches text w s a)
+text_keeps text_command.FindAndDelete text w = λ s a. search_keeps false s (search_and_replace text [] w s a) (replacement_searches false text [] w s a)
+text_keeps text_command.FindAndKill text w = λ s a. search_keeps false s (search_and_kill text w s a) (kill_searches false text w s a)
 text_keeps _ text w = tt
 
 item_keeps : (i : Item) (w : Setting) → ActionKeeps (item_effect i w)
 item_keeps (token.bare b) w = bare_keeps b w
 item_keeps (token.register c q) w = register_keeps c q w
 item_keeps (token.text c text) w = text_keeps c text w
-item_keeps (token.replace old new) w = λ s a. search_keeps false s (search_and_replace old new w s a) (replacement_searches false old new w s a)
+item_keeps (token.replace old new) w = λ s a. search_keeps false s (replace old new w s a) (replace_searches false old new w s a)
 item_keeps _ w = tt
 
 settled_keeps : (t : Attempt) (s : State) (a : Arguments) → Keeps s t → (settled s a t).end ≢ out → (settled s a t).state.is_done ≡ s.is_done

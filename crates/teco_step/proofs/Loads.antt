@@ -21,15 +21,14 @@ use Rattle.teco_step.specs.Control.{is_left}
 use Rattle.teco_step.specs.Line.{line}
 use Rattle.teco_step.specs.Load.{Moves}
 use Rattle.teco_step.specs.Pages.{pages_left, with_output_in_limit, with_page_turned}
-use Rattle.teco_step.specs.Registers as registers
 use Rattle.teco_step.specs.declared.next.Setting.{Setting}
 use Rattle.teco_step.specs.Step.{Attempt, Made, Action, goes, steers, goes_on, done_by, on, leave, settled, ends, as_byte, place_or, takes_none, takes_one, takes_one_or, takes_reach}
 use Rattle.teco_step.specs.Typing.{around, ended, part}
 use Rattle.teco_step.specs.Values.{built, quantity_value}
 use Rattle.teco_step.proofs.Moving.{exit_moves, nothing_moves, turn_moves}
 use Rattle.teco_step.proofs.Occurring.{Backward, Forward, Long, Spelled}
-use Rattle.teco_step.proofs.Seeking.{seeks, seeks_and_replaces, seeks_reading, seeks_turning}
-use Rattle.teco_step.proofs.Working.{AttemptWorks, MadeWorks, Works, attempt_then, case_works, delete_works, extract_works, get_works, gives_works, increment_works, insert_tab_works, insert_works, kill_works, level_works, made_then, moves_works, next_page_works, output_is, pop_works, push_works, set_number_works, set_text_works, turned_is, types_works, within_limit, write_page_works}
+use Rattle.teco_step.proofs.Seeking.{replaces_or_compares, seeks, seeks_and_kills, seeks_and_replaces, seeks_reading, seeks_turning}
+use Rattle.teco_step.proofs.Working.{AttemptWorks, MadeWorks, Works, attempt_then, case_works, delete_works, extract_works, get_works, gives_works, increment_works, insert_tab_works, insert_works, kill_works, level_works, made_then, moves_works, next_page_works, output_is, pop_works, push_works, register_value_works, set_number_works, set_text_works, turned_is, types_works, within_limit, write_page_works}
 
 abbrev ActionWorks : Action → Type 0
 ActionWorks (goes make) = (s : State) (a : Arguments) → MadeWorks s (make s a)
@@ -83,7 +82,8 @@ command_works command.TypeOut w = λ s a. made_then s (takes_reach s a) _ (λ r 
 command_works command.View w = λ s a. made_then s (takes_none a) _ (λ none e. types_works s (part s (around s)))
 command_works command.TypeByte w = λ s a. made_then s (takes_one code.Arg a) _ (λ n e. made_then s (as_byte n) _ (λ b h. types_works s (b ∷ [])))
 command_works command.Print w = λ s a. made_then s (takes_one code.Nae a) _ (λ n e. types_works s (ended w.modifiers (signed_decimal n)))
-command_works command.PrintOctal w = λ s a. made_then s (takes_one code.Nae a) _ (λ n e. types_works s (ended w.modifiers (digits 8 false (to_word n))))
+command_works command.PrintOctal w = λ s a. made_then s (takes_one code.Nae a) _ (λ n e. types_works s (ended w.modifiers (digits 8 true (to_word n))))
+command_works command.PrintHexadecimal w = λ s a. made_then s (takes_one code.Nae a) _ (λ n e. types_works s (ended w.modifiers (digits 16 true (to_word n))))
 command_works command.NextPage w = next_page_works w.modifiers
 command_works command.WritePage w = write_page_works
 command_works command.CaseMode w = case_works
@@ -95,7 +95,7 @@ bare_works (bare.Command c) w = command_works c w
 bare_works (bare.Level l) w = level_works w.modifiers l
 
 register_works : (c : RegisterCommand) (q : ℕ) (w : Setting) → ActionWorks (register_effect c q w)
-register_works register_command.Number q w = λ s a. gives_works s a (registers.number_or_length w.modifiers q s)
+register_works register_command.Number q w = register_value_works w.modifiers q
 register_works register_command.Increment q w = increment_works q
 register_works register_command.Set q w = set_number_works q
 register_works register_command.Extract q w = extract_works w.modifiers q
@@ -103,15 +103,6 @@ register_works register_command.Push q w = push_works q
 register_works register_command.Pop q w = pop_works q
 register_works register_command.Get q w = get_works w.modifiers q
 register_works register_command.Macro q w = λ s a. inl (refl, refl)
-
-text_works : (c : TextCommand) (text : List ℕ) (w : Setting) → ActionWorks (text_effect c text w)
-text_works text_command.Insert text w = insert_works text
-text_works text_command.InsertTab text w = insert_tab_works text
-text_works text_command.TypeOut text w = λ s a. made_then s (takes_none a) _ (λ none e. inl (refl, refl))
-text_works text_command.Go text w = λ s a. attempt_then s (takes_none a) _ (λ none e. inl (refl, refl))
-text_works text_command.Search text w = seeks text w
-text_works text_command.SearchPages text w = seeks_turning text w
-text_works text_command.SearchPagesQuietly text w = seeks_reading text w
 
 settled_works : (t : Attempt) (s : State) (a : Arguments) → AttemptWorks s t → Works s (settled s a t).state (settled s a t).typed (settled s a t).load
 settled_works (Ok step) s a h = h
@@ -130,13 +121,24 @@ apart_by_work s t typed load (inl (stays, none)) = inl stays
 apart_by_work s t typed load (inr (silent, keeps, moves)) = inr silent
 
 module _ (long : Long) (is_forward : Forward) (is_backward : Backward) (spelled : Spelled) where
+  text_works : (c : TextCommand) (text : List ℕ) (w : Setting) → ActionWorks (text_effect c text w)
+  text_works text_command.Insert text w = insert_works text
+  text_works text_command.InsertTab text w = insert_tab_works text
+  text_works text_command.TypeOut text w = λ s a. made_then s (takes_none a) _ (λ none e. inl (refl, refl))
+  text_works text_command.Go text w = λ s a. attempt_then s (takes_none a) _ (λ none e. inl (refl, refl))
+  text_works text_command.Search text w = seeks text w
+  text_works text_command.SearchPages text w = seeks_turning text w
+  text_works text_command.SearchPagesQuietly text w = seeks_reading text w
+  text_works text_command.FindAndDelete text w = seeks_and_replaces long is_forward is_backward spelled text [] w
+  text_works text_command.FindAndKill text w = seeks_and_kills long is_forward is_backward spelled text w
+
   item_works : (i : Item) (w : Setting) → ActionWorks (item_effect i w)
   item_works (token.digits ds) w = λ s a. made_then s (decimal_value ds) _ (λ n e. gives_works s a n)
   item_works (token.bare b) w = bare_works b w
   item_works (token.register c q) w = register_works c q w
   item_works (token.text c text) w = text_works c text w
   item_works (token.set_text q text) w = set_text_works w.modifiers q text
-  item_works (token.replace old new) w = seeks_and_replaces long is_forward is_backward spelled old new w
+  item_works (token.replace old new) w = replaces_or_compares long is_forward is_backward spelled old new w
   item_works (token.byte b) w = λ s a. gives_works s a (pos b)
 
   effect_works : (i : Item) (w : Setting) (s : State) (a : Arguments) → Works s (effect i w s a).state (effect i w s a).typed (effect i w s a).load

@@ -7,11 +7,11 @@ use Rattle.teco_core.specs.Refusal.{◌>>=◌}
 use Rattle.teco_core.specs.Arguments.{Arguments}
 use Rattle.teco_search.specs.declared.element.Element.{Element}
 use Rattle.teco_search.specs.Law.{AreBackward, AreBackwardEndingBy, AreForward, MatchesAreLong, MatchesTo}
-use Rattle.teco_search.specs.Occurrence.{Sought, Span, backward, forward, looked_for, occurrence}
+use Rattle.teco_search.specs.Occurrence.{Sought, Span, backward, forward, looked_for, match_end, occurrence}
 use Rattle.teco_search.specs.Reading.{read}
 use Rattle.teco_search.specs.Spelling.{Spells, nothing, next}
 use Rattle.teco_store.specs.State.{State}
-use Rattle.teco_step.specs.Searching.{found, sought, takes_count, text_or_last}
+use Rattle.teco_step.specs.Searching.{found, matched, sought, takes_count, text_or_last}
 
 -- One of a list of occurrences is a match.
 nth_forward : (q : Sought) (text : List ℕ) (from : ℕ) (ms : List Span) (n : ℕ) (m : Span) → AreForward q text from ms → slice_get ms n ≡ Some m → MatchesTo q text m.0 m.1
@@ -95,3 +95,14 @@ module _ (long : Long) (is_forward : Forward) (is_backward : Backward) (spelled 
 
   pub found_lies : (text : List ℕ) (s : State) (a : Arguments) (m : Span) → found text s a ≡ Ok (Some m) → Lies s m
   found_lies text s a m e = found_by s (takes_count a) (sought text s) m (λ q is. some_sought text s q is) e
+
+  matched_by : (s : State) (y : Result Sought Code) (end : ℕ) → ((q : Sought) → y ≡ Ok q → 0 < length q.elements)
+      → (y >>= (λ q. Ok (match_end q.mode q.elements s.text s.pointer))) ≡ Ok (Some end) → Lies s (s.pointer, end)
+  matched_by s (Ok q) end some e =
+      let is : match_end q.mode q.elements s.text s.pointer ≡ Some end = cc in
+      let h : (s.pointer < end) × (end ≤ length s.text) = long q s.text (some q refl) s.pointer end is in
+      (omega (arith, h.0), h.1)
+  matched_by s (Err c) end some e = absurd cc
+
+  pub matched_lies : (text : List ℕ) (s : State) (end : ℕ) → matched text s ≡ Ok (Some end) → Lies s (s.pointer, end)
+  matched_lies text s end e = matched_by s (sought text s) end (λ q is. some_sought text s q is) e

@@ -71,6 +71,9 @@ between p q n low high =
     let top : max p q ≤ n = max-le low high in
     omega (arith, le-max_left p q, min-le_left p q)
 
+pub rising_lies : (p q n : ℕ) → p ≤ n → q ≤ n → (min p q ≤ max p q) × (max p q ≤ n)
+rising_lies p q n low high = (omega (arith, le-max_left p q, min-le_left p q), max-le low high)
+
 abbrev pub Spans : State → Range → Type 0
 Spans s r = r.low + (r.high - r.low) ≤ length s.text
 

@@ -27,11 +27,11 @@ computing = 0
 abbrev looks_for : String → Item
 looks_for written = text Search (codes written)
 
-abbrev puts_for : String → String → Item
+abbrev pub puts_for : String → String → Item
 puts_for written bytes = replace (codes written) (codes bytes)
 
 -- the buffer has this text, and a search was made
-abbrev after_search : String → ℕ → String → Bool → State
+abbrev pub after_search : String → ℕ → String → Bool → State
 after_search written place last is_found = record (holds (codes written) place) { last_search = Some (codes last); last_found = is_found }
 
 -- with so many colons; in an iteration, and before a ;

@@ -1,5 +1,5 @@
 -- How a search ends: it goes on or fails, or has a further step where it may; and it leaves the session as done as it was.
-use Rattle.std.proofs.Common.{◌≡◌, ◌⊎◌, inl, inr, refl, ℕ, ◌-◌, List, length, Option, None, Some, Result, Ok, Err, Bool, true, false, cond}
+use Rattle.std.proofs.Common.{◌≡◌, ◌⊎◌, inl, inr, refl, ℕ, ◌-◌, min, max, List, [], length, Option, None, Some, Result, Ok, Err, Bool, true, false, cond}
 use Rattle.std.specs.Prelude.{nat_le}
 use Rattle.teco_core.specs.declared.code.Code.{Code}
 use Rattle.teco_core.specs.declared.code.Code.TheVariants.{Big, Srh}
@@ -10,7 +10,7 @@ use Rattle.teco_store.specs.Search.{length_of, noted, replaced_noted}
 use Rattle.teco_store.specs.State.{State}
 use Rattle.teco_step.specs.Editing.{with_text_in_limit}
 use Rattle.teco_core.specs.declared.limits.TheConstants.{TEXT_LIMIT}
-use Rattle.teco_step.specs.Searching.{with_search_in_limit, notes, noted_text, answer, answers, end_failed, found, searched, search, matched, compared, compare, search_or_compare, replaces, replaced_or_not, search_and_replace}
+use Rattle.teco_step.specs.Searching.{with_search_in_limit, notes, noted_text, answer, answers, end_failed, found, searched, search, matched, compared, compare, search_or_compare, replaces, replaced_or_not, search_and_replace, compared_and_replaced, compare_and_replace, replace, killed_or_not, search_and_kill}
 use Rattle.teco_step.specs.declared.next.Setting.{Setting}
 use Rattle.teco_step.specs.Step.{Attempt, End, on, again, stop, takes_none}
 use Rattle.teco_step.specs.declared.next.Work.{Work}
@@ -79,15 +79,34 @@ module _ (further : Bool) where
   pub searches : (text : List ℕ) (w : Setting) (s : State) (a : Arguments) → Searches further s (search_or_compare text w s a)
   searches text w s a = if_searches s _ (compare text s a) (search text w s a) (compare_searches text s a) (search_searches text w s a)
 
-  replaces_searches : (text bytes : List ℕ) (w : Setting) (m : Span) (s : State) → Searches further s (replaces text bytes w m s)
-  replaces_searches text bytes w m s =
-      let t : State = replaced_noted s (noted_text text) m.0 (m.1 - m.0) bytes in
+  replaces_searches : (text bytes : List ℕ) (a : Arguments) (from to : ℕ) (s : State) → Searches further s (replaces text bytes a from to s)
+  replaces_searches text bytes a from to s =
+      let t : State = replaced_noted s (noted_text text) from (to - from) bytes in
       state_searches s (with_text_in_limit t) _ (text_keeps s t refl)
       (λ u keeps. state_searches s (with_search_in_limit u) _ (search_keeps s u keeps) (λ v still. (inl refl, still)))
 
   replaced_or_not_searches : (text bytes : List ℕ) (w : Setting) (m : Option Span) (s : State) (a : Arguments) → Searches further s (replaced_or_not text bytes w m s a)
   replaced_or_not_searches text bytes w None s a = searched_searches text w None s a
-  replaced_or_not_searches text bytes w (Some m) s a = replaces_searches text bytes w m s
+  replaced_or_not_searches text bytes w (Some m) s a = replaces_searches text bytes (answers w true) m.0 m.1 s
 
   pub replacement_searches : (text bytes : List ℕ) (w : Setting) (s : State) (a : Arguments) → Searches further s (search_and_replace text bytes w s a)
   replacement_searches text bytes w s a = then_searches s (found text s a) _ (λ m. replaced_or_not_searches text bytes w m s a)
+
+  compared_and_replaced_searches : (text bytes : List ℕ) (end : Option ℕ) (s : State) → Searches further s (compared_and_replaced text bytes end s)
+  compared_and_replaced_searches text bytes None s = compared_searches text None s
+  compared_and_replaced_searches text bytes (Some end) s = replaces_searches text bytes (answer true) s.pointer end s
+
+  compare_and_replace_searches : (text bytes : List ℕ) (s : State) (a : Arguments) → Searches further s (compare_and_replace text bytes s a)
+  compare_and_replace_searches text bytes s a =
+      then_searches s (takes_none a) _ (λ none. then_searches s (matched text s) _ (λ end. compared_and_replaced_searches text bytes end s))
+
+  pub replace_searches : (text bytes : List ℕ) (w : Setting) (s : State) (a : Arguments) → Searches further s (replace text bytes w s a)
+  replace_searches text bytes w s a =
+      if_searches s _ (compare_and_replace text bytes s a) (search_and_replace text bytes w s a) (compare_and_replace_searches text bytes s a) (replacement_searches text bytes w s a)
+
+  killed_or_not_searches : (text : List ℕ) (w : Setting) (m : Option Span) (s : State) (a : Arguments) → Searches further s (killed_or_not text w m s a)
+  killed_or_not_searches text w None s a = searched_searches text w None s a
+  killed_or_not_searches text w (Some m) s a = replaces_searches text [] (answers w true) (min s.pointer m.1) (max s.pointer m.1) s
+
+  pub kill_searches : (text : List ℕ) (w : Setting) (s : State) (a : Arguments) → Searches further s (search_and_kill text w s a)
+  kill_searches text w s a = then_searches s (found text s a) _ (λ m. killed_or_not_searches text w m s a)

@@ -1,5 +1,5 @@
 -- What a step does: it types and leaves the state, or its load is what it moves.
-use Rattle.std.proofs.Common.{◌≡◌, ◌∙◌, ap, sym, subst, refl, ◌⊎◌, inl, inr, ℕ, ◌+◌, ◌-◌, ◌≤◌, min, max, Bool, true, false, cond, List, [], ◌∷◌, ◌++◌, length, drop, None, Result, Ok, Err, ℤ, pos, nat_le, arith}
+use Rattle.std.proofs.Common.{◌≡◌, ◌∙◌, ap, sym, subst, refl, ◌⊎◌, inl, inr, ℕ, ◌+◌, ◌-◌, ◌≤◌, min, max, Bool, true, false, cond, List, [], ◌∷◌, ◌++◌, length, drop, Option, None, Some, Result, Ok, Err, ℤ, pos, nat_le, arith}
 use Rattle.std.specs.Prelude.{◌==◌, ◌+ℤ◌}
 use Rattle.std.specs.Fmt.{signed_decimal}
 use Rattle.teco_core.specs.declared.arguments.Level.{Level}
@@ -9,6 +9,8 @@ use Rattle.teco_core.specs.declared.arguments.Taken.TheVariants as taken
 use Rattle.teco_core.specs.declared.code.Code.{Code}
 use Rattle.teco_core.specs.declared.code.Code.TheVariants as code
 use Rattle.teco_core.specs.declared.limits.TheConstants.{FILE_LIMIT, TEXT_LIMIT}
+use Rattle.teco_core.specs.declared.profile.Profile.{Profile}
+use Rattle.teco_core.specs.declared.profile.Profile.TheVariants.{Named, Wide}
 use Rattle.teco_core.specs.Refusal.{◌>>=◌}
 use Rattle.teco_core.specs.Number.{fitted}
 use Rattle.teco_core.specs.Arguments.{Arguments, emptied, give, level_of, taken_from}
@@ -23,9 +25,9 @@ use Rattle.teco_step.specs.Decimal.{Numeral, decimal_at_level, insert_number, nu
 use Rattle.teco_step.specs.Editing.{delete, insert, insert_tab, inserted, inserts, kill, moves, puts, untaken, with_text_in_limit}
 use Rattle.teco_step.specs.Load.{Moves}
 use Rattle.teco_step.specs.Pages.{append_page, next_page, with_output_in_limit, with_page_read, with_page_turned, write_page, writes, writes_taken}
-use Rattle.teco_step.specs.Registers.{adds, extract, get, increment, increments, insert_text, pop, push, set_number, set_text, sets_text, type_text}
+use Rattle.teco_step.specs.Registers.{adds, byte_asked, extract, get, increment, increments, insert_text, pop, push, register_value, set_number, set_text, sets_number, sets_text, takes_text, type_text, value_or_code}
 use Rattle.teco_step.specs.Step.{Attempt, Made, changes, edits, gives, place_or, reached, takes_none, takes_one, takes_one_or, takes_reach, types}
-use Rattle.teco_step.specs.Values.{appends, at_level}
+use Rattle.teco_step.specs.Values.{appends, at_level, distance_at_level}
 use Rattle.teco_step.proofs.Moving.{case_moves, more_moves, number_moves, page_moves, pointer_moves, pop_moves, push_moves, register_moves, splice_moves, writing_moves}
 use Rattle.teco_step.proofs.Reaching.{between, place_within, reach_spans}
 
@@ -151,9 +153,16 @@ appends_works m (level.Sign n) s a = gives_works s (emptied a) _
 appends_works m level.Empty s a = append_page_works m s a
 appends_works m level.Waits s a = tt
 
+distance_works : (l : Level) (s : State) (a : Arguments) → MadeWorks s (distance_at_level l s a)
+distance_works (level.Value n) s a = gives_works s (emptied a) _
+distance_works (level.Sign n) s a = gives_works s (emptied a) _
+distance_works level.Empty s a = gives_works s a _
+distance_works level.Waits s a = gives_works s a _
+
 pub level_works : (m : Modifiers) (l : LevelCommand) (s : State) (a : Arguments) → MadeWorks s (at_level m l s a)
 level_works m level_command.Append s a = appends_works m (level_of a.expression) s a
 level_works m level_command.Decimal s a = decimal_works (level_of a.expression) s a
+level_works m level_command.Distance s a = distance_works (level_of a.expression) s a
 
 -- pages
 pub next_page_works : (m : Modifiers) (s : State) (a : Arguments) → MadeWorks s (next_page m s a)
@@ -174,8 +183,21 @@ pub write_page_works : (s : State) (a : Arguments) → MadeWorks s (write_page s
 write_page_works s a = made_then s (taken_from a) _ (λ t e. writes_taken_works t s a)
 
 -- registers
+value_or_code_works : (m : Modifiers) (q : ℕ) (asked : Option ℤ) (s : State) (a : Arguments) → MadeWorks s (value_or_code m q asked s a)
+value_or_code_works m q None s a = gives_works s a _
+value_or_code_works m q (Some n) s a = gives_works s (emptied a) _
+
+pub register_value_works : (m : Modifiers) (q : ℕ) (s : State) (a : Arguments) → MadeWorks s (register_value m q s a)
+register_value_works m q s a = value_or_code_works m q (byte_asked m s.profile (level_of a.expression)) s a
+
+sets_number_works : (p : Profile) (q : ℕ) (t : Taken) (s : State) → MadeWorks s (sets_number p q t s)
+sets_number_works p q taken.None s = tt
+sets_number_works p q (taken.One n) s = inr (refl, refl, λ within. number_moves s q n)
+sets_number_works Named q (taken.Two m n) s = tt
+sets_number_works Wide q (taken.Two m n) s = inr (refl, refl, λ within. number_moves s q n)
+
 pub set_number_works : (q : ℕ) (s : State) (a : Arguments) → MadeWorks s (set_number q s a)
-set_number_works q s a = made_then s (takes_one code.Nau a) _ (λ n e. inr (refl, refl, λ within. number_moves s q n))
+set_number_works q s a = made_then s (taken_from a) _ (λ t e. sets_number_works s.profile q t s)
 
 adds_works : (q : ℕ) (n : ℤ) (s : State) (a : Arguments) → MadeWorks s (adds q n s a)
 adds_works q n s a =
@@ -196,7 +218,7 @@ sets_works q text s =
     (inr (refl, refl, λ within. register_moves s q text)) tt
 
 pub set_text_works : (m : Modifiers) (q : ℕ) (text : List ℕ) (s : State) (a : Arguments) → MadeWorks s (set_text m q text s a)
-set_text_works m q text s a = made_then s (takes_none a) _ (λ none e. sets_works q _ s)
+set_text_works m q text s a = made_then s (takes_text s.profile text a) _ (λ bytes e. sets_works q _ s)
 
 pub extract_works : (m : Modifiers) (q : ℕ) (s : State) (a : Arguments) → MadeWorks s (extract m q s a)
 extract_works m q s a = made_then s (takes_reach s a) _ (λ r e. sets_works q _ s)

@@ -1,5 +1,5 @@
 -- One step of a token.
-use Rattle.std.specs.Prelude.{ℕ, List}
+use Rattle.std.specs.Prelude.{ℕ, List, []}
 use Rattle.teco_scan.specs.declared.command.Bare.{Bare}
 use Rattle.teco_scan.specs.declared.command.Bare.TheVariants as bare
 use Rattle.teco_scan.specs.declared.command.Command.{Command}
@@ -13,12 +13,13 @@ use Rattle.teco_scan.specs.Scan as token
 use Rattle.teco_core.specs.Arguments.{Arguments}
 use Rattle.teco_store.specs.State.{State}
 use Rattle.teco_step.specs.declared.next.Setting.{Setting}
+use Rattle.teco_step.specs.declared.typing.Base.TheVariants.{Decimal, Octal, Hexadecimal}
 use Rattle.teco_step.specs.Step.{Step, Action, goes, steers, done_by, settled}
 use Rattle.teco_step.specs.Values.{number, give_quantity, build, give_byte, at_level}
 use Rattle.teco_step.specs.Editing.{jump, forward, back, to_line, delete, kill, insert, insert_tab}
-use Rattle.teco_step.specs.Typing.{type_out, view, type_text, type_byte, print, print_octal}
+use Rattle.teco_step.specs.Typing.{type_out, view, type_text, type_byte, print}
 use Rattle.teco_step.specs.Registers.{register_value, set_number, increment, set_text, extract, push, pop, get}
-use Rattle.teco_step.specs.Searching.{search_or_compare, search_and_replace}
+use Rattle.teco_step.specs.Searching.{search_or_compare, search_and_replace, search_and_kill, replace}
 use Rattle.teco_step.specs.Control.{leave_or_not, jump_to, run_register}
 use Rattle.teco_step.specs.Pages.{next_page, turn_pages, with_page_read, with_page_turned, write_page, exit}
 use Rattle.teco_step.specs.PageSearching.{search_pages}
@@ -35,8 +36,9 @@ command_effect command.Kill w = goes kill
 command_effect command.TypeOut w = goes type_out
 command_effect command.View w = goes view
 command_effect command.TypeByte w = goes type_byte
-command_effect command.Print w = goes (print w.modifiers)
-command_effect command.PrintOctal w = goes (print_octal w.modifiers)
+command_effect command.Print w = goes (print Decimal w.modifiers)
+command_effect command.PrintOctal w = goes (print Octal w.modifiers)
+command_effect command.PrintHexadecimal w = goes (print Hexadecimal w.modifiers)
 command_effect command.Leave w = steers (leave_or_not w.modifiers w.inside)
 command_effect command.NextPage w = goes (next_page w.modifiers)
 command_effect command.TurnPages w = steers (turn_pages w.modifiers w.work)
@@ -69,6 +71,8 @@ text_effect text_command.Go text w = steers (jump_to text)
 text_effect text_command.Search text w = steers (search_or_compare text w)
 text_effect text_command.SearchPages text w = steers (search_pages with_page_turned text w)
 text_effect text_command.SearchPagesQuietly text w = steers (search_pages with_page_read text w)
+text_effect text_command.FindAndDelete text w = steers (search_and_replace text [] w)
+text_effect text_command.FindAndKill text w = steers (search_and_kill text w)
 
 abbrev pub item_effect : Item → Setting → Action
 item_effect (token.digits ds) w = goes (number ds)
@@ -76,7 +80,7 @@ item_effect (token.bare b) w = bare_effect b w
 item_effect (token.register c q) w = register_effect c q w
 item_effect (token.text c text) w = text_effect c text w
 item_effect (token.set_text q text) w = goes (set_text w.modifiers q text)
-item_effect (token.replace old new) w = steers (search_and_replace old new w)
+item_effect (token.replace old new) w = steers (replace old new w)
 item_effect (token.byte b) w = goes (give_byte b)
 
 -- One step of a token, its first or a further one.

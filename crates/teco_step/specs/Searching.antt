@@ -2,7 +2,6 @@
 use Rattle.std.specs.Prelude.{ℕ, ◌+◌, ◌-◌, Bool, true, false, ◌&&◌, ◌||◌, List, [], length, Option, None, Some, unwrap_or, Result, Ok, Err, ℤ, pos, zero, nat_le, ◌==◌, if◌then◌else◌}
 use Rattle.teco_core.specs.declared.code.Code.{Code}
 use Rattle.teco_core.specs.declared.code.Code.TheVariants.{Big, Isa, Iss, Srh}
-use Rattle.teco_core.specs.declared.arguments.Expression.TheVariants.{Number}
 use Rattle.teco_core.specs.declared.limits.TheConstants.{TEXT_LIMIT}
 use Rattle.teco_core.specs.Refusal.{◌>>=◌}
 use Rattle.teco_core.specs.Number.{truth}
@@ -12,7 +11,7 @@ use Rattle.teco_search.specs.Reading.{read}
 use Rattle.teco_store.specs.Search.{length_of, noted, note_load, replaced_noted}
 use Rattle.teco_store.specs.State.{State}
 use Rattle.teco_step.specs.Editing.{with_text_in_limit}
-use Rattle.teco_step.specs.Step.{Attempt, End, Setting, on, stop, takes_none, takes_one_or}
+use Rattle.teco_step.specs.Step.{Attempt, End, Range, Setting, alone, on, rising, stop, takes_none, takes_one_or}
 
 -- An empty text means the last one;
 abbrev pub text_or_last : List ℕ → State → List ℕ
@@ -56,7 +55,7 @@ with_search_in_limit s = if nat_le (length_of s.last_search) TEXT_LIMIT then Ok 
 
 -- the result as a value
 abbrev pub answer : Bool → Arguments
-answer is_found = record no_arguments { expression = Number (truth is_found) }
+answer is_found = alone (truth is_found)
 
 -- With a colon a search gives its result.
 abbrev pub answers : Setting → Bool → Arguments
@@ -113,25 +112,54 @@ compare text s a = do
 abbrev pub search_or_compare : List ℕ → Setting → State → Arguments → Attempt
 search_or_compare text w s a = if w.modifiers.colons == 2 then compare text s a else search text w s a
 
--- The bytes come in for what was found, and the pointer goes after them.
-abbrev pub replaces : List ℕ → List ℕ → Setting → Span → State → Attempt
-replaces text bytes w m s = do
-  t ← with_text_in_limit (replaced_noted s (noted_text text) m.0 (m.1 - m.0) bytes)
+-- The text was found and is noted. The bytes come in for those from one place to another, and the pointer goes after them.
+abbrev pub replaces : List ℕ → List ℕ → Arguments → ℕ → ℕ → State → Attempt
+replaces text bytes a from to s = do
+  t ← with_text_in_limit (replaced_noted s (noted_text text) from (to - from) bytes)
   u ← with_search_in_limit t
   Ok (record {
     state = u;
-    arguments = answers w true;
+    arguments = a;
     typed = [];
-    load = note_load s (noted_text text) + ((m.1 - m.0) + length bytes);
+    load = note_load s (noted_text text) + ((to - from) + length bytes);
     end = on;
   })
 
 abbrev pub replaced_or_not : List ℕ → List ℕ → Setting → Option Span → State → Arguments → Attempt
 replaced_or_not text bytes w None s a = fails text w s a
-replaced_or_not text bytes w (Some m) s a = replaces text bytes w m s
+replaced_or_not text bytes w (Some m) s a = replaces text bytes (answers w true) m.0 m.1 s
 
 -- nFS: looks for the nth occurrence of the text, and puts the bytes in its place.
 abbrev pub search_and_replace : List ℕ → List ℕ → Setting → State → Arguments → Attempt
 search_and_replace text bytes w s a = do
   m ← found text s a
   replaced_or_not text bytes w m s a
+
+-- The bytes come in for a match at the pointer that is there; else the pointer stays.
+abbrev pub compared_and_replaced : List ℕ → List ℕ → Option ℕ → State → Attempt
+compared_and_replaced text bytes None s = compared text None s
+compared_and_replaced text bytes (Some end) s = replaces text bytes (answer true) s.pointer end s
+
+-- ::FS: whether the text is at the pointer, where the bytes then come in for it.
+abbrev pub compare_and_replace : List ℕ → List ℕ → State → Arguments → Attempt
+compare_and_replace text bytes s a = do
+  none ← takes_none a
+  end ← matched text s
+  compared_and_replaced text bytes end s
+
+-- FS, and with two colons ::FS
+abbrev pub replace : List ℕ → List ℕ → Setting → State → Arguments → Attempt
+replace text bytes w s a = if w.modifiers.colons == 2 then compare_and_replace text bytes s a
+    else search_and_replace text bytes w s a
+
+-- What lies between the pointer and the end of what was found is deleted.
+abbrev pub killed_or_not : List ℕ → Setting → Option Span → State → Arguments → Attempt
+killed_or_not text w None s a = fails text w s a
+killed_or_not text w (Some m) s a = let r = rising s.pointer m.1 in
+    replaces text [] (answers w true) r.low r.high s
+
+-- nFK: looks for the nth occurrence of the text, and deletes what lies up to its end.
+abbrev pub search_and_kill : List ℕ → Setting → State → Arguments → Attempt
+search_and_kill text w s a = do
+  m ← found text s a
+  killed_or_not text w m s a

@@ -3,6 +3,7 @@ use Rattle.std.specs.Prelude.{ℕ, min, max, List, [], length, Result, Ok, Err, 
 use Rattle.teco_core.specs.declared.code.Code.{Code}
 use Rattle.teco_core.specs.declared.code.Code.TheVariants.{Arg, Ill, Pop}
 use Rattle.teco_core.specs.declared.arguments.Taken.{Taken}
+use Rattle.teco_core.specs.declared.arguments.Expression.TheVariants.{Number}
 use Rattle.teco_core.specs.declared.arguments.Taken.TheVariants as taken
 use Rattle.teco_core.specs.Refusal.{◌>>=◌}
 use Rattle.teco_core.specs.Arguments.{Arguments, no_arguments, give, taken_from}
@@ -94,6 +95,10 @@ types s bytes = Ok (record { state = s; arguments = no_arguments; typed = bytes;
 -- It leaves these arguments.
 abbrev pub leaves : State → Arguments → Made
 leaves s a = edits s a 0
+
+-- a value and nothing else
+abbrev pub alone : ℤ → Arguments
+alone v = record no_arguments { expression = Number v }
 
 -- It gives a value.
 abbrev pub gives : State → Arguments → ℤ → Made

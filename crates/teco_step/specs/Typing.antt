@@ -1,5 +1,5 @@
 -- Typing.
-use Rattle.std.specs.Prelude.{ℕ, ℤ, Bool, List, [], ◌∷◌, ◌++◌, take, drop, pos, false, true, ◌==◌, if◌then◌else◌, codes}
+use Rattle.std.specs.Prelude.{ℕ, ℤ, List, [], ◌∷◌, ◌++◌, take, drop, pos, true, ◌==◌, if◌then◌else◌, codes}
 use Rattle.std.specs.Fmt.{digits, signed_decimal}
 use Rattle.teco_core.specs.declared.code.Code.TheVariants.{Arg, Nae}
 use Rattle.teco_core.specs.Refusal.{◌>>=◌}
@@ -7,6 +7,8 @@ use Rattle.teco_core.specs.Number.{to_word}
 use Rattle.teco_core.specs.Arguments.{Arguments}
 use Rattle.teco_scan.specs.declared.command.Modifiers.{Modifiers}
 use Rattle.teco_store.specs.State.{State}
+use Rattle.teco_step.specs.declared.typing.Base.{Base}
+use Rattle.teco_step.specs.declared.typing.Base.TheVariants as base
 use Rattle.teco_step.specs.Line.{line}
 use Rattle.teco_step.specs.Step.{Made, types, takes_none, takes_one, takes_reach, as_byte, rising, Range}
 
@@ -48,22 +50,17 @@ type_byte s a = do
 abbrev pub ended : Modifiers → List ℕ → List ℕ
 ended m bytes = if m.colons == 1 then bytes else bytes ++ codes "\r\n"
 
--- n in decimal, or the 32-bit two's complement of n in octal
-abbrev pub numeral : Bool → ℤ → List ℕ
-numeral in_octal n = if in_octal then digits 8 false (to_word n) else signed_decimal n
+-- n in decimal, or the 32-bit two's complement of n in octal or in hexadecimal, with capitals
+abbrev pub numeral : Base → ℤ → List ℕ
+numeral base.Decimal n = signed_decimal n
+numeral base.Octal n = digits 8 true (to_word n)
+numeral base.Hexadecimal n = digits 16 true (to_word n)
 
-abbrev pub print_in : Bool → Modifiers → State → Arguments → Made
-print_in in_octal m s a = do
+-- n= types n in decimal, n== in octal, and n=== in hexadecimal.
+abbrev pub print : Base → Modifiers → State → Arguments → Made
+print b m s a = do
   n ← takes_one Nae a
-  types s (ended m (numeral in_octal n))
-
--- n=: types n in decimal.
-abbrev pub print : Modifiers → State → Arguments → Made
-print m s a = print_in false m s a
-
--- n==: types n in octal.
-abbrev pub print_octal : Modifiers → State → Arguments → Made
-print_octal m s a = print_in true m s a
+  types s (ended m (numeral b n))
 
 -- ^Atext^A: types its text.
 abbrev pub type_text : List ℕ → State → Arguments → Made

@@ -1,5 +1,5 @@
 -- Values, and what builds arguments.
-use Rattle.std.specs.Prelude.{ℕ, List, length, slice_index, Result, Err, ℤ, pos, negsuc, ◌+ℤ◌, nat_lt, if◌then◌else◌}
+use Rattle.std.specs.Prelude.{ℕ, List, length, slice_index, Result, Err, ℤ, pos, negsuc, ◌+ℤ◌, ◌-ℤ◌, nat_lt, if◌then◌else◌}
 use Rattle.teco_core.specs.declared.code.Code.{Code}
 use Rattle.teco_core.specs.declared.code.Code.TheVariants.{Arg}
 use Rattle.teco_core.specs.declared.arguments.Level.{Level}
@@ -19,6 +19,7 @@ use Rattle.teco_store.specs.Page.{is_input_over}
 use Rattle.teco_step.specs.Step.{Made, leaves, gives}
 use Rattle.teco_step.specs.Pages.{append_page}
 use Rattle.teco_step.specs.Decimal.{decimal}
+use Rattle.teco_step.specs.Line.{line}
 
 -- A run of digits gives its decimal value.
 abbrev pub number : List ℕ → State → Arguments → Made
@@ -75,7 +76,22 @@ appends m level.Waits s a = Err Arg
 abbrev pub append : Modifiers → State → Arguments → Made
 append m s a = appends m (level_of a.expression) s a
 
+-- how far the place of line n is from the pointer, negative backward
+abbrev pub distance_to : ℤ → State → ℤ
+distance_to n s = pos (line s.text s.pointer n) -ℤ pos s.pointer
+
+-- n^Q: how far line n is comes for what the level has. Without n that of the next line is given.
+abbrev pub distance_at_level : Level → State → Arguments → Made
+distance_at_level (level.Value n) s a = gives s (emptied a) (distance_to n s)
+distance_at_level (level.Sign n) s a = gives s (emptied a) (distance_to n s)
+distance_at_level level.Empty s a = gives s a (distance_to (pos 1) s)
+distance_at_level level.Waits s a = gives s a (distance_to (pos 1) s)
+
+abbrev pub distance : State → Arguments → Made
+distance s a = distance_at_level (level_of a.expression) s a
+
 -- A value or a command, by what the level has.
 abbrev pub at_level : Modifiers → LevelCommand → State → Arguments → Made
 at_level m level_command.Append s a = append m s a
 at_level m level_command.Decimal s a = decimal s a
+at_level m level_command.Distance s a = distance s a

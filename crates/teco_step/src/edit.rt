@@ -91,8 +91,8 @@ pub fn kill<D: Desk>(desk: &mut D, args: &mut Args) -> Result<Next, Failure>
     put(desk, range.start, range.end - range.start, &[], args)
 }
 
-/// What `I` inserts where it has no text: the byte of the number that it takes.
-fn inserted_byte(text: &[u8], taken: Taken) -> Result<Option<u8>, Failure>
+/// What `I` inserts where it has no text: the byte of the number that it takes. A text beside the number is [`Code::Iia`].
+pub(crate) fn inserted_byte(text: &[u8], taken: Taken) -> Result<Option<u8>, Failure>
     ensures { Takes (editing.or_byte text.now) result (editing.inserted text.now taken) }
 {
     match taken {

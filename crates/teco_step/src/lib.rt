@@ -14,6 +14,7 @@ mod number_laws;
 mod page_searching;
 mod pages;
 mod registers;
+mod replacing;
 mod searching;
 mod step;
 mod taking;

@@ -3,20 +3,23 @@ ghost use Rattle.std.specs.Prelude.{◌≡◌, ◌≤◌, ◌++◌, length, pos,
 ghost use Rattle.teco_core.specs.ArgumentsView.{arguments};
 ghost use Rattle.teco_core.specs.Arguments.{emptied, give};
 ghost use Rattle.teco_core.specs.Register.{content};
+ghost use Rattle.teco_core.specs.declared.arguments.Taken.TheVariants.{Two};
 ghost use Rattle.teco_core.specs.declared.limits.TheConstants.{TEXT_LIMIT};
-ghost use Rattle.teco_step.specs.Families.{Acts, Does};
+ghost use Rattle.teco_step.specs.Editing.{or_byte};
+ghost use Rattle.teco_step.specs.Families.{Acts, Does, Takes};
 ghost use Rattle.teco_step.specs.Registers as registers;
+ghost use Rattle.teco_step.specs.Values.{code_at};
 ghost use Rattle.teco_step.specs.Step.{goes};
 ghost use Rattle.teco_step.specs.declared.failure.Failure.TheVariants.{Memory};
 
-use crate::edit::put;
+use crate::edit::{inserted_byte, put};
 use crate::failure::{Failure, done};
 use crate::joining::{joined, joined_after};
 use crate::next::Next;
-use crate::taking::{given, sum, takes_none, takes_one, takes_reach};
+use crate::taking::{given, sum, taken, takes_none, takes_reach};
 use crate::typing::type_text;
-use crate::value::give;
-use teco_core::{Args, Code, Level, Reg};
+use crate::value::code_in;
+use teco_core::{Args, Code, Level, Profile, Reg, Taken};
 use teco_io::Terminal;
 use teco_scan::Modifiers;
 use teco_store::{Desk, part};
@@ -39,7 +42,51 @@ fn value_of<D: Desk>(desk: &D, modifiers: Modifiers, q: Reg) -> i32
     desk.registers().number(q)
 }
 
-/// `Qq` gives the number of q, and with a colon the length of its text.
+/// The code of byte `n` of the text of `q`, or -1 where none is.
+fn code_of<D: Desk>(desk: &D, q: Reg, n: i32) -> i32
+    ensures { result ≡ code_at (content (D.state desk.now).registers q).text n }
+{
+    match usize::try_from(n) {
+        Ok(place) => code_in(desk.registers().text(q), &[], place),
+        Err(_) => -1,
+    }
+}
+
+/// The place of the byte that `nQq` asks for: in Wide n without a colon, where the level has it.
+fn byte_asked(modifiers: Modifiers, profile: Profile, level: Level) -> Option<i32>
+    ensures { result ≡ registers.byte_asked modifiers profile level }
+{
+    match (profile, level) {
+        (Profile::Wide, Level::Value(n)) if modifiers.colons != 1 => Some(n),
+        _ => None,
+    }
+}
+
+/// `Qq` where the value could not be given, by this code: in Wide `nQq` gives the code of byte n of the text of q.
+#[inline(never)]
+fn code_or_refusal<D: Desk>(
+    desk: &D,
+    modifiers: Modifiers,
+    q: Reg,
+    code: Code,
+    args: &mut Args,
+) -> Result<Next, Failure>
+    requires { give (registers.number_or_length modifiers q (D.state desk.now)) (arguments args.old)
+        ≡ Err code }
+    ensures does { Acts D.Desk (goes (registers.register_value modifiers q))
+        (desk.now, args.old) (desk.now, args.new) result }
+    ensures no_memory { result ≡ Err Memory → ⊥ }
+{
+    match byte_asked(modifiers, desk.profile(), args.level()) {
+        Some(n) => {
+            give_alone(args, code_of(desk, q, n));
+            Ok(Next::On)
+        }
+        None => Err(Failure::Command(code)),
+    }
+}
+
+/// `Qq` gives the number of q, and with a colon the length of its text. In Wide `nQq` gives the code of byte n of the text.
 #[inline(always)]
 pub fn register_value<D: Desk>(
     desk: &D,
@@ -51,16 +98,45 @@ pub fn register_value<D: Desk>(
         (desk.now, args.old) (desk.now, args.new) result }
     ensures no_memory { result ≡ Err Memory → ⊥ }
 {
-    give(desk, value_of(desk, modifiers, q), args)
+    match args.give(value_of(desk, modifiers, q)) {
+        Ok(()) => Ok(Next::On),
+        Err(code) => code_or_refusal(desk, modifiers, q, code, args),
+    }
 }
 
-/// `nUq`: the number of q becomes n.
+/// `m,nUq`: in Wide the number of q becomes n, and m is given. In Named it is [`Code::Arg`].
+#[inline(never)]
+fn set_and_give<D: Desk>(
+    desk: &mut D,
+    q: Reg,
+    m: i32,
+    n: i32,
+    args: &mut Args,
+) -> Result<Next, Failure>
+    ensures { Acts D.Desk (goes (λ s _. registers.sets_number s.profile q (Two m n) s))
+        (desk.old, args.old) (desk.new, args.new) result }
+{
+    match desk.profile() {
+        Profile::Named => Err(Failure::Command(Code::Arg)),
+        Profile::Wide => {
+            desk.set_number(q, n)?;
+            args.clear();
+            give_alone(args, m);
+            Ok(Next::On)
+        }
+    }
+}
+
+/// `nUq`: the number of q becomes n. In Wide `m,nUq` gives m.
 #[inline(always)]
 pub fn set_number<D: Desk>(desk: &mut D, q: Reg, args: &mut Args) -> Result<Next, Failure>
     ensures { Acts D.Desk (goes (registers.set_number q)) (desk.old, args.old) (desk.new, args.new) result }
 {
-    let n = takes_one(args, Code::Nau)?;
-    done(desk.set_number(q, n), Next::On, args)
+    match taken(args)? {
+        Taken::None => Err(Failure::Command(Code::Nau)),
+        Taken::One(n) => done(desk.set_number(q, n), Next::On, args),
+        Taken::Two(m, n) => set_and_give(desk, q, m, n, args),
+    }
 }
 
 /// Gives a value in place of what the level has, which no level refuses.
@@ -122,7 +198,40 @@ pub(crate) fn copy<D: Desk>(desk: &D, q: Reg, bytes: &[u8]) -> Result<Vec<u8>, F
     }
 }
 
-/// `^Uqtext$`: the text of q becomes this one, and with a colon it comes behind the text of q. A text past its limit is [`Code::Big`].
+/// The text of q becomes these bytes, and with a colon they come behind it. A text past its limit is [`Code::Big`].
+fn come_to<D: Desk>(
+    desk: &mut D,
+    modifiers: Modifiers,
+    q: Reg,
+    text: &[u8],
+    args: &mut Args,
+) -> Result<Next, Failure>
+    ensures { Acts D.Desk (goes (λ s _. registers.comes_to modifiers q text.now s))
+        (desk.old, args.old) (desk.new, args.new) result }
+{
+    if modifiers.colons == 1 {
+        let both = joined(desk, desk.registers().text(q), text)?;
+        return done(desk.set_text(q, both), Next::On, args);
+    }
+    let text = copy(desk, q, text)?;
+    done(desk.set_text(q, text), Next::On, args)
+}
+
+/// The byte that comes for the text of `^U`: in Wide that of the number that it takes, as for `I`. In Named it takes nothing.
+fn byte_taken<D: Desk>(desk: &D, text: &[u8], args: &Args) -> Result<Option<u8>, Failure>
+    ensures { Takes (or_byte text.now) result
+        (registers.takes_text (D.state desk.now).profile text.now (arguments args.now)) }
+{
+    match taken(args)? {
+        Taken::None => Ok(None),
+        taken => match desk.profile() {
+            Profile::Named => Err(Failure::Command(Code::Arg)),
+            Profile::Wide => inserted_byte(text, taken),
+        },
+    }
+}
+
+/// `^Uqtext$`: the text of q becomes this one, and with a colon it comes behind the text of q. In Wide `n^Uq$` has the byte n for its text.
 pub fn set_text<D: Desk>(
     desk: &mut D,
     modifiers: Modifiers,
@@ -133,13 +242,10 @@ pub fn set_text<D: Desk>(
     ensures { Acts D.Desk (goes (registers.set_text modifiers q text.now))
         (desk.old, args.old) (desk.new, args.new) result }
 {
-    takes_none(args)?;
-    if modifiers.colons == 1 {
-        let both = joined(desk, desk.registers().text(q), text)?;
-        return done(desk.set_text(q, both), Next::On, args);
+    match byte_taken(desk, text, args)? {
+        None => come_to(desk, modifiers, q, text, args),
+        Some(byte) => come_to(desk, modifiers, q, &[byte], args),
     }
-    let text = copy(desk, q, text)?;
-    done(desk.set_text(q, text), Next::On, args)
 }
 
 /// What comes to q of a range in two parts, in memory of its own: with a colon the text of q comes before it.

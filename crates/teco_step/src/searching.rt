@@ -101,7 +101,7 @@ fn found_exactly<D: Desk>(desk: &D, text: &[u8], args: &Args) -> Option<Option<(
 
 /// Where the nth occurrence of a text from the pointer begins and ends, if there is one.
 #[inline(always)]
-fn found<D: Desk, P: Patience>(
+pub(crate) fn found<D: Desk, P: Patience>(
     desk: &D,
     text: &[u8],
     args: &Args,
@@ -232,10 +232,11 @@ fn search<D: Desk, P: Patience>(
 }
 
 /// Where the text ends that is at the pointer, if it is there.
-fn matched<D: Desk>(desk: &D, text: &[u8]) -> Result<Option<usize>, Failure>
+pub(crate) fn matched<D: Desk>(desk: &D, text: &[u8]) -> Result<Option<usize>, Failure>
     ensures ok { IfOk result (λ end. searching.matched text.now (D.state desk.now) ≡ Ok end) }
     ensures err { IfErr result (λ failure. IsRefusal failure (searching.matched text.now (D.state desk.now))
         ⊎ (failure ≡ Memory)) }
+    ensures after { IfOk result (λ end. IfSome end (λ place. (D.state desk.now).pointer ≤ place)) }
     ensures within { IfOk result (λ end. IfSome end (λ place. place ≤ length (D.state desk.now).text)) }
 {
     let pattern = sought(desk, text)?;
@@ -286,24 +287,4 @@ pub fn search_or_compare<D: Desk, P: Patience>(
             args,
         ),
     }
-}
-
-/// `nFS` looks for the nth occurrence of the text, and puts the bytes in its place.
-pub fn search_and_replace<D: Desk, P: Patience>(
-    desk: &mut D,
-    text: &[u8],
-    bytes: &[u8],
-    setting: Setting,
-    args: &mut Args,
-    patience: &P,
-) -> Result<Next, Failure>
-    ensures { Acts D.Desk (steers (searching.search_and_replace text.now bytes.now setting))
-        (desk.old, args.old) (desk.new, args.new) result }
-{
-    let Some((start, end)) = found(desk, text, args, patience)? else {
-        return fail(desk, text, setting, args);
-    };
-    desk.note_replace(noted_text(text), start, end - start, bytes)?;
-    answer(setting.modifiers.colons == 1, true, args);
-    Ok(Next::On)
 }

@@ -12,9 +12,10 @@ ghost use Rattle.teco_step.specs.Stepping.{IsStepIn, Steps, name_in, takes_nothi
 ghost use Rattle.teco_step.specs.declared.failure.Failure.TheVariants.{Memory};
 ghost use Rattle.teco_step.specs.declared.next.Next.TheVariants.{Error};
 
+use crate::typing::Base;
 use crate::{
     Context, Failure, Next, Setting, case, control, edit, next_of, page_searching, pages,
-    registers, searching, typing, value,
+    registers, replacing, searching, typing, value,
 };
 use teco_core::{Args, Code, Reg};
 use teco_io::Terminal;
@@ -40,8 +41,11 @@ fn command_step<D: Desk, T: Terminal>(
         Command::TypeOut => typing::type_out(desk, args, term),
         Command::View => typing::view(desk, args, term),
         Command::TypeByte => typing::type_byte(desk, args, term),
-        Command::Print => typing::print(desk, false, setting.modifiers, args, term),
-        Command::PrintOctal => typing::print(desk, true, setting.modifiers, args, term),
+        Command::Print => typing::print(desk, Base::Decimal, setting.modifiers, args, term),
+        Command::PrintOctal => typing::print(desk, Base::Octal, setting.modifiers, args, term),
+        Command::PrintHexadecimal => {
+            typing::print(desk, Base::Hexadecimal, setting.modifiers, args, term)
+        }
         Command::Leave => control::leave_or_not(desk, setting.modifiers, setting.inside, args),
         Command::Back => edit::back(desk, args),
         Command::Line => edit::to_line(desk, args),
@@ -128,6 +132,10 @@ fn text_step<D: Desk, T: Terminal, P: Patience>(
         TextCommand::SearchPagesQuietly => page_searching::search_pages(
             desk, text, true, setting, args, patience,
         ),
+        TextCommand::FindAndDelete => {
+            replacing::search_and_replace(desk, text, &[], setting, args, patience)
+        }
+        TextCommand::FindAndKill => replacing::search_and_kill(desk, text, setting, args, patience),
     }
 }
 
@@ -176,7 +184,7 @@ fn item_step<D: Desk, T: Terminal, P: Patience>(
         Item::Byte(code) => value::byte(desk, code, args),
         Item::Replace(old, new) => {
             let (old, new) = (bytes_of(text, old), bytes_of(text, new));
-            searching::search_and_replace(desk, old, new, setting, args, patience)
+            replacing::replace(desk, old, new, setting, args, patience)
         }
     }
 }

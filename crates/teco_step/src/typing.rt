@@ -1,6 +1,6 @@
 //! Commands that type. They change no state and take no memory, and one that is not done keeps the arguments.
-ghost use Rattle.std.specs.Prelude.{◌≡◌, ◌≢◌, ◌≤◌, ◌++◌, [], false, length, drop, take, Err, Ok, OnErr, OnOk};
-ghost use Rattle.std.specs.Fmt.{digits};
+ghost use Rattle.std.specs.Prelude.{◌≡◌, ◌≢◌, ◌≤◌, ◌<◌, ◌++◌, [], true, length, drop, take, Err, Ok, OnErr, OnOk};
+ghost use Rattle.std.specs.Fmt.{digit_glyph, digits};
 ghost use Rattle.teco_core.specs.Arguments.{no_arguments};
 ghost use Rattle.teco_core.specs.ArgumentsView.{arguments};
 ghost use Rattle.teco_core.specs.Number.{to_word};
@@ -18,6 +18,14 @@ use teco_core::{Args, Code};
 use teco_io::{Terminal, TerminalFault};
 use teco_scan::Modifiers;
 use teco_store::{Desk, part};
+
+/// The base that a number is typed in.
+#[derive(Clone, Copy)]
+pub enum Base {
+    Decimal,
+    Octal,
+    Hexadecimal,
+}
 
 /// Shows the bytes, and puts nothing where there are none.
 fn put_some<T: Terminal>(bytes: &[u8], term: &mut T) -> Result<(), TerminalFault>
@@ -147,17 +155,30 @@ fn put_line<T: Terminal>(
     put_some(&line[..end + 2], term)
 }
 
-/// Writes a number in octal at the end of the bytes, and says where it begins.
-fn octal(n: u32, bytes: &mut [u8; 64]) -> usize
-    ensures value { drop result bytes.new ≡ digits 8 false n }
+/// The byte of a digit; a capital for one above 9.
+fn digit_byte(digit: u32) -> u8
+    requires { digit < 16 }
+    ensures { result ≡ digit_glyph true digit }
+{
+    if digit < 10 {
+        return b'0' + digit as u8;
+    }
+    b'A' + (digit - 10) as u8
+}
+
+/// Writes a number in a base at the end of the bytes, and says where it begins.
+fn digits_in(base: u32, n: u32, bytes: &mut [u8; 64]) -> usize
+    requires some { 0 < base }
+    requires few { base ≤ 16 }
+    ensures value { drop result bytes.new ≡ digits base true n }
     ensures within { result ≤ 64 }
 {
     let mut start = 64;
     let mut left = n;
     while start > 0 {
         start -= 1;
-        bytes[start] = b'0' + (left % 8) as u8;
-        left /= 8;
+        bytes[start] = digit_byte(left % base);
+        left /= base;
         if left == 0 {
             break;
         }
@@ -166,53 +187,63 @@ fn octal(n: u32, bytes: &mut [u8; 64]) -> usize
 }
 
 /// The 32 bits of a number, as the number that they are without a sign.
-#[tactic(auto, using(crate::proofs::Octal::same_word))]
+#[tactic(auto, using(crate::proofs::Digits::same_word))]
 fn word(n: i32) -> u32
     ensures { result ≡ to_word n }
 {
     n.cast_unsigned()
 }
 
-/// Shows a number in octal, by its 32 bits.
-fn put_octal<T: Terminal>(n: i32, modifiers: Modifiers, term: &mut T) -> Result<(), TerminalFault>
+/// Shows the 32 bits of a number in a base.
+fn put_word<T: Terminal>(
+    base: u32,
+    n: i32,
+    modifiers: Modifiers,
+    term: &mut T,
+) -> Result<(), TerminalFault>
+    requires some { 0 < base }
+    requires few { base ≤ 16 }
     ensures puts { Puts (T.screen term.old) (T.screen term.new)
-        (typing.ended modifiers (digits 8 false (to_word n))) result }
-    ensures some { OnErr result (typing.ended modifiers (digits 8 false (to_word n)) ≢ []) }
+        (typing.ended modifiers (digits base true (to_word n))) result }
+    ensures some { OnErr result (typing.ended modifiers (digits base true (to_word n)) ≢ []) }
 {
     let mut bytes = [0; 64];
-    let start = octal(word(n), &mut bytes);
+    let start = digits_in(base, word(n), &mut bytes);
     put_line(&bytes[start..], modifiers, term)
 }
 
-/// Shows a number in decimal, or in octal.
+/// Shows a number in decimal, or its 32 bits in octal or in hexadecimal.
 fn put_number<T: Terminal>(
     n: i32,
-    in_octal: bool,
+    base: Base,
     modifiers: Modifiers,
     term: &mut T,
 ) -> Result<(), TerminalFault>
     ensures puts { Puts (T.screen term.old) (T.screen term.new)
-        (typing.ended modifiers (typing.numeral in_octal n)) result }
-    ensures some { OnErr result (typing.ended modifiers (typing.numeral in_octal n) ≢ []) }
+        (typing.ended modifiers (typing.numeral base n)) result }
+    ensures some { OnErr result (typing.ended modifiers (typing.numeral base n) ≢ []) }
 {
-    if in_octal {
-        return put_octal(n, modifiers, term);
+    match base {
+        Base::Decimal => {
+            let mut buffer = Buffer::new();
+            put_line(buffer.format(n).as_bytes(), modifiers, term)
+        }
+        Base::Octal => put_word(8, n, modifiers, term),
+        Base::Hexadecimal => put_word(16, n, modifiers, term),
     }
-    let mut buffer = Buffer::new();
-    put_line(buffer.format(n).as_bytes(), modifiers, term)
 }
 
-/// `n=` types n in decimal, and `n==` in octal.
+/// `n=` types n in decimal, `n==` in octal, and `n===` in hexadecimal.
 pub fn print<D: Desk, T: Terminal>(
     desk: &D,
-    in_octal: bool,
+    base: Base,
     modifiers: Modifiers,
     args: &mut Args,
     term: &mut T,
 ) -> Result<Next, Failure>
-    ensures { Types (goes (typing.print_in in_octal modifiers)) (D.state desk.now) (arguments args.old)
+    ensures { Types (goes (typing.print base modifiers)) (D.state desk.now) (arguments args.old)
         (arguments args.new) (T.screen term.old) (T.screen term.new) result }
 {
     let n = takes_one(args, Code::Nae)?;
-    typed(put_number(n, in_octal, modifiers, term), args)
+    typed(put_number(n, base, modifiers, term), args)
 }

@@ -1,6 +1,7 @@
 //! Tokens that give a value or build arguments. But for the commands that the level decides on, they change no state and take no
 //! memory. One that is refused keeps the arguments.
 ghost use Rattle.std.specs.Prelude.{◌≡◌, ◌++◌, ◌<◌, ◌^◌, pos, Err, IfErr, Ok, OnErr, OnOk};
+ghost use Rattle.teco_core.specs.Arguments.{emptied};
 ghost use Rattle.teco_core.specs.ArgumentsView.{arguments};
 ghost use Rattle.teco_step.specs.Families.{Acts};
 ghost use Rattle.teco_step.specs.Step.{gives, goes};
@@ -13,7 +14,7 @@ use crate::line::byte_at;
 use crate::next::Next;
 use crate::pages::append_page;
 use crate::registers::give_alone;
-use crate::taking::{decimal, place_after, text_length, truth};
+use crate::taking::{decimal, line_from, place_after, text_length, truth};
 use teco_core::{Args, Code, Level};
 use teco_scan::{Arithmetic, LevelCommand, Modifiers, Quantity};
 use teco_store::Desk;
@@ -101,13 +102,15 @@ pub fn arithmetic<D: Desk>(
 
 /// The code of the byte at a place of a text in two halves, or -1 where none is.
 #[inline(always)]
-fn code_in(before: &[u8], after: &[u8], place: usize) -> i32
+pub(crate) fn code_in(before: &[u8], after: &[u8], place: usize) -> i32
     ensures { result ≡ values.code_at (before.now ++ after.now) (pos place) }
 {
-    if place < before.len() + after.len() {
-        i32::from(byte_at(before, after, place))
-    } else {
-        -1
+    if place < before.len() {
+        return i32::from(before[place]);
+    }
+    match after.get(place - before.len()) {
+        Some(byte) => i32::from(*byte),
+        None => -1,
     }
 }
 
@@ -147,6 +150,38 @@ fn append<D: Desk>(desk: &mut D, modifiers: Modifiers, args: &mut Args) -> Resul
     }
 }
 
+/// How far the place of line `n` is from the pointer, negative backward.
+fn distance_to<D: Desk>(desk: &D, n: i32) -> i32
+    ensures { result ≡ values.distance_to n (D.state desk.now) }
+{
+    let pointer = desk.pointer() as i32;
+    line_from(desk, n) as i32 - pointer
+}
+
+/// Gives how far line `n` is, in place of what the level has.
+fn give_distance<D: Desk>(desk: &D, n: i32, args: &mut Args) -> Result<Next, Failure>
+    ensures does { Acts D.Desk (goes (λ s a. gives s (emptied a) (values.distance_to n s)))
+        (desk.now, args.old) (desk.now, args.new) result }
+    ensures no_memory { result ≡ Err Memory → ⊥ }
+{
+    let far = distance_to(desk, n);
+    give_alone(args, far);
+    Ok(Next::On)
+}
+
+/// `n^Q` gives how far line n is from the pointer, and without n how far the next line is.
+#[inline(never)]
+fn distance<D: Desk>(desk: &D, args: &mut Args) -> Result<Next, Failure>
+    ensures does { Acts D.Desk (goes values.distance) (desk.now, args.old) (desk.now, args.new) result }
+    ensures no_memory { result ≡ Err Memory → ⊥ }
+{
+    match args.level() {
+        Level::Value(n) => give_distance(desk, n, args),
+        Level::Sign(n) => give_distance(desk, n, args),
+        Level::Empty | Level::Waits => give(desk, distance_to(desk, 1), args),
+    }
+}
+
 /// A value or a command, by what the level has.
 #[inline(always)]
 pub fn at_level<D: Desk>(
@@ -161,5 +196,6 @@ pub fn at_level<D: Desk>(
     match command {
         LevelCommand::Append => append(desk, modifiers, args),
         LevelCommand::Decimal => decimal_at_level(desk, args),
+        LevelCommand::Distance => distance(desk, args),
     }
 }

@@ -1,2 +1,4 @@
 pub mod CommandLines
+pub mod Found
+pub mod Lines
 pub mod Outputs

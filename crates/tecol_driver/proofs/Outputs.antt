@@ -12,7 +12,9 @@ use Rattle.tecol_driver.specs.Keeping.{FailsToWrite, MakesAndPuts, Output, PutsO
 use Rattle.tecol_driver.specs.declared.fate.TecolFate.{TecolFate}
 use Rattle.std.specs.IoError.{error_kind}
 use Rattle.teco_fs.specs.Reasons.{ComesTo, reason_of}
-use Rattle.tecol_driver.specs.declared.fate.TecolFate.TheVariants.{Done, Faulty, Unreadable, NoInput, LargeInput, NoMemory, NoOutput}
+use Rattle.tecol_driver.specs.declared.fate.TecolFate.TheVariants.{Done, Unchecked, Faulty, Unreadable, NoInput, LargeInput, NoMemory, NoOutput}
+use Rattle.tecol_driver.specs.declared.fate.Verdict.{Verdict}
+use Rattle.tecol_driver.specs.declared.fate.Verdict.TheVariants as verdict
 use Rattle.tecol_driver.specs.declared.made.Made.{Made}
 use Rattle.tecol_driver.specs.declared.made.Made.TheVariants as made
 
@@ -37,6 +39,7 @@ of_error : {error : Error} (fate : TecolFate) → ComesTo error NoMemory NoOutpu
 of_error NoMemory is = inl refl
 of_error (NoOutput other) is = inr (other, refl)
 of_error (Done unkept) is = absurd (no_other is (λ e. cc) (λ e. cc))
+of_error (Unchecked unkept) is = absurd (no_other is (λ e. cc) (λ e. cc))
 of_error (Faulty unkept) is = absurd (no_other is (λ e. cc) (λ e. cc))
 of_error (Unreadable spot) is = absurd (no_other is (λ e. cc) (λ e. cc))
 of_error (NoInput other) is = absurd (no_other is (λ e. cc) (λ e. cc))
@@ -48,21 +51,25 @@ pub fails_by : {I T : Type 0} (b : Bool) (screen : T → Screen) (name bytes : L
 fails_by true screen name bytes before after old new fate f = inr (WriteFailed, f.0.fate_is)
 fails_by false screen name bytes before after old new fate f = of_error fate f.1.fate_is
 
--- what is to be written was made, and it is told whether that tells of a fault
-abbrev pub Chosen : (Made → Type 0) → Vec ℕ Global × Bool → Type 0
-Chosen is_made (bytes, is_faulty) = (is_made (made.Fine bytes) × (is_faulty ≡ false)) ⊎ (is_made (made.Faulty bytes) × (is_faulty ≡ true))
+-- what is to be written was made, and it is told what was found of it
+abbrev pub Chosen : (Made → Type 0) → Vec ℕ Global × Verdict → Type 0
+Chosen is_made (bytes, verdict.Clean) = is_made (made.Fine bytes)
+Chosen is_made (bytes, verdict.Unchecked) = is_made (made.Unchecked bytes)
+Chosen is_made (bytes, verdict.Faulty) = is_made (made.Faulty bytes)
 
 module _ (is_made : Made → Type 0) (input : List ℕ) (output : Output) (bytes : Vec ℕ Global) where
-  pub puts : (is_faulty : Bool) (unkept : Option Unkept) → Chosen is_made (bytes, is_faulty) → output.writes bytes.items × output.unkept unkept
-      → MakesAndPuts is_made input output (fate_put is_faulty unkept)
-  puts is_faulty unkept (inl (m, is)) w = subst (λ b. MakesAndPuts is_made input output (fate_put b unkept)) (sym is) (bytes, m, w.0, w.1)
-  puts is_faulty unkept (inr (m, is)) w = subst (λ b. MakesAndPuts is_made input output (fate_put b unkept)) (sym is) (bytes, m, w.0, w.1)
+  pub puts : (found : Verdict) (unkept : Option Unkept) → Chosen is_made (bytes, found) → output.writes bytes.items × output.unkept unkept
+      → MakesAndPuts is_made input output (fate_put found unkept)
+  puts verdict.Clean unkept m w = (bytes, m, w.0, w.1)
+  puts verdict.Unchecked unkept m w = (bytes, m, w.0, w.1)
+  puts verdict.Faulty unkept m w = (bytes, m, w.0, w.1)
 
-  made_so : (is_faulty : Bool) → Chosen is_made (bytes, is_faulty) → is_made (made.Fine bytes) ⊎ is_made (made.Faulty bytes)
-  made_so is_faulty (inl (m, is)) = inl m
-  made_so is_faulty (inr (m, is)) = inr m
+  made_so : (found : Verdict) → Chosen is_made (bytes, found) → is_made (made.Fine bytes) ⊎ (is_made (made.Unchecked bytes) ⊎ is_made (made.Faulty bytes))
+  made_so verdict.Clean m = inl m
+  made_so verdict.Unchecked m = inr (inl m)
+  made_so verdict.Faulty m = inr (inr m)
 
-  pub fails : (is_faulty : Bool) (fate : TecolFate) → Chosen is_made (bytes, is_faulty) → output.fails bytes.items fate → (fate ≡ NoMemory) ⊎ IsNoOutput fate
+  pub fails : (found : Verdict) (fate : TecolFate) → Chosen is_made (bytes, found) → output.fails bytes.items fate → (fate ≡ NoMemory) ⊎ IsNoOutput fate
       → MakesAndPuts is_made input output fate
-  fails is_faulty fate m f (inl is) = subst (MakesAndPuts is_made input output) (sym is) (inr (bytes, made_so is_faulty m, subst (output.fails bytes.items) is f))
-  fails is_faulty fate m f (inr is) = subst (MakesAndPuts is_made input output) (sym is.1) (bytes, made_so is_faulty m, subst (output.fails bytes.items) is.1 f)
+  fails found fate m f (inl is) = subst (MakesAndPuts is_made input output) (sym is) (inr (bytes, made_so found m, subst (output.fails bytes.items) is f))
+  fails found fate m f (inr is) = subst (MakesAndPuts is_made input output) (sym is.1) (bytes, made_so found m, subst (output.fails bytes.items) is.1 f)

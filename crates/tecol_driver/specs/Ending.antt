@@ -11,7 +11,7 @@ use Rattle.teco_messages.specs.Shown.{spot_shown}
 use Rattle.teco_messages.specs.Spot.{spot_of}
 use Rattle.teco_messages.specs.declared.spot.Spot.{Spot}
 use Rattle.tecol_driver.specs.declared.fate.TecolFate.{TecolFate}
-use Rattle.tecol_driver.specs.declared.fate.TecolFate.TheVariants.{Done, Faulty, Unreadable, NoInput, LargeInput, NoMemory, NoOutput}
+use Rattle.tecol_driver.specs.declared.fate.TecolFate.TheVariants.{Done, Unchecked, Faulty, Unreadable, NoInput, LargeInput, NoMemory, NoOutput}
 use Rattle.tecol_driver.specs.declared.line.TecolLine.{TecolLine}
 
 -- the status of a run whose output is written: this one, or 1 if text is lost with what could not be kept
@@ -22,6 +22,7 @@ status_put status (Some unkept) = if is_text unkept then 1 else status
 -- 2 where a fault was found or a source can't be read, 1 where anything failed
 abbrev pub status_of : TecolFate → ℕ
 status_of (Done unkept) = status_put 0 unkept
+status_of (Unchecked unkept) = status_put 0 unkept
 status_of (Faulty unkept) = status_put 2 unkept
 status_of (Unreadable spot) = 2
 status_of fate = 1
@@ -53,6 +54,7 @@ kept_text line (Some unkept) = said (string_bytes line.output ++ codes ": " ++ u
 -- what is told of a fate: a line, or nothing
 abbrev pub text_of : TecolLine → TecolFate → List ℕ
 text_of line (Done unkept) = kept_text line unkept
+text_of line (Unchecked unkept) = kept_text line unkept
 text_of line (Faulty unkept) = kept_text line unkept
 text_of line (Unreadable spot) = unreadable (string_bytes line.input) spot
 text_of line (NoInput reason) = said (with_reason (codes "cannot read ") (string_bytes line.input) reason)
@@ -63,5 +65,6 @@ text_of line (NoOutput reason) = said (with_reason (codes "cannot write ") (stri
 -- A line is told of it.
 abbrev pub is_told : TecolFate → Bool
 is_told (Done unkept) = is_some unkept
+is_told (Unchecked unkept) = is_some unkept
 is_told (Faulty unkept) = is_some unkept
 is_told fate = true

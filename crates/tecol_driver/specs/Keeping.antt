@@ -22,7 +22,9 @@ use Rattle.teco_io.specs.Terminal.{IsFrontOf, Screen, Shows}
 use Rattle.tecol_driver.specs.Ending.{fate_without_input, is_told, said, spot_in, status_of, text_of}
 use Rattle.tecol_driver.specs.Made.{IsMade}
 use Rattle.tecol_driver.specs.declared.fate.TecolFate.{TecolFate}
-use Rattle.tecol_driver.specs.declared.fate.TecolFate.TheVariants.{Done, Faulty, Unreadable, NoInput, LargeInput, NoMemory, NoOutput}
+use Rattle.tecol_driver.specs.declared.fate.TecolFate.TheVariants.{Done, Unchecked, Faulty, Unreadable, NoInput, LargeInput, NoMemory, NoOutput}
+use Rattle.tecol_driver.specs.declared.fate.Verdict.{Verdict}
+use Rattle.tecol_driver.specs.declared.fate.Verdict.TheVariants as verdict
 use Rattle.tecol_driver.specs.declared.line.TecolLine.{TecolLine}
 use Rattle.tecol_driver.specs.declared.made.Made.{Made}
 use Rattle.tecol_driver.specs.declared.made.Made.TheVariants as made
@@ -113,21 +115,24 @@ abbrev pub PutsOut : Output → List ℕ → Result (Option Unkept) TecolFate �
 PutsOut output bytes (Ok unkept) = output.writes bytes × output.unkept unkept
 PutsOut output bytes (Err fate) = output.fails bytes fate
 
--- how a run ends whose output is written, if a check found a fault or not
-abbrev pub fate_put : Bool → Option Unkept → TecolFate
-fate_put true unkept = Faulty unkept
-fate_put false unkept = Done unkept
+-- how a run ends whose output is written, by what was found
+abbrev pub fate_put : Verdict → Option Unkept → TecolFate
+fate_put verdict.Clean unkept = Done unkept
+fate_put verdict.Unchecked unkept = Unchecked unkept
+fate_put verdict.Faulty unkept = Faulty unkept
 
 -- What was made was to be written, and that failed so.
 abbrev pub FailsWith : (Made → Type 0) → Output → TecolFate → Type 0
 FailsWith is_made output fate =
-    (bytes : Vec ℕ Global) × (is_made (made.Fine bytes) ⊎ is_made (made.Faulty bytes)) × output.fails bytes.items fate
+    (bytes : Vec ℕ Global) × (is_made (made.Fine bytes) ⊎ (is_made (made.Unchecked bytes) ⊎ is_made (made.Faulty bytes))) × output.fails bytes.items fate
 
 -- How a run ends over an input that was read, and what it has done then.
 abbrev pub MakesAndPuts : (Made → Type 0) → List ℕ → Output → TecolFate → Type 0
 -- what was made is written whole, and this could not be kept of a file that was written over
 MakesAndPuts is_made input output (Done unkept) =
     (bytes : Vec ℕ Global) × is_made (made.Fine bytes) × output.writes bytes.items × output.unkept unkept
+MakesAndPuts is_made input output (Unchecked unkept) =
+    (bytes : Vec ℕ Global) × is_made (made.Unchecked bytes) × output.writes bytes.items × output.unkept unkept
 MakesAndPuts is_made input output (Faulty unkept) =
     (bytes : Vec ℕ Global) × is_made (made.Faulty bytes) × output.writes bytes.items × output.unkept unkept
 -- of a source that can't be read nothing is written
@@ -142,7 +147,7 @@ MakesAndPuts is_made input output (NoOutput reason) = FailsWith is_made output (
 
 -- The input was read, and the run ends by what was made of it; or it was not read, and nothing is written.
 abbrev pub EndsAfter : TecolLine → Result (Vec ℕ Global) TecolFate → Output → TecolFate → Type 0
-EndsAfter line (Ok input) output fate = MakesAndPuts (IsMade line.profile line.mode input.items) input.items output fate
+EndsAfter line (Ok input) output fate = MakesAndPuts (IsMade line input.items) input.items output fate
 EndsAfter line (Err lack) output fate = (fate ≡ lack) × output.keeps
 
 -- how what a run changes is seen

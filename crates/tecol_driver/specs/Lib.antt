@@ -1,3 +1,6 @@
+pub mod Synonyms
+pub mod Respelling
+pub mod Diffs
 pub mod Made
 pub mod Ending
 pub mod Keeping

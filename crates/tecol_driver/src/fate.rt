@@ -9,11 +9,24 @@ use teco_fs::{Reason, Unkept, reason_of, unless_memory};
 use teco_io::InputFault;
 use teco_messages::Spot;
 
+/// What is found in what a run makes, where that tells of a check.
+#[derive(Clone, Copy)]
+pub enum Verdict {
+    /// No fault, and all was looked into; or no check was asked for.
+    Clean,
+    /// No fault, and not all was looked into.
+    Unchecked,
+    /// A fault.
+    Faulty,
+}
+
 /// How a run ends, once its command line is read.
 #[derive(Clone, Copy)]
 pub enum TecolFate {
     /// What was made is written, but this could not be kept of the file whose place it takes.
     Done(Option<Unkept>),
+    /// So are the lines of a check that found no fault, and did not look into all.
+    Unchecked(Option<Unkept>),
     /// So are the lines of a check that found a fault.
     Faulty(Option<Unkept>),
     /// In the source a caret at this line and column cannot be read.
@@ -80,6 +93,7 @@ pub fn status(fate: TecolFate) -> u8
 {
     match fate {
         TecolFate::Done(unkept) => status_put(0, unkept),
+        TecolFate::Unchecked(unkept) => status_put(0, unkept),
         TecolFate::Faulty(unkept) => status_put(2, unkept),
         TecolFate::Unreadable(_) => 2,
         _ => 1,

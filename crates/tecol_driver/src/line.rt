@@ -15,6 +15,10 @@ pub enum TecolMode {
     CheckSource,
     /// What a check tells of bytes.
     CheckBytes,
+    /// A diff of a source, to other spellings of its synonyms.
+    FixSource,
+    /// A diff of bytes.
+    FixBytes,
 }
 
 /// What the command line says.

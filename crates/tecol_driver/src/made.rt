@@ -1,8 +1,11 @@
 //! What a run makes of its input.
-ghost use Rattle.std.specs.Prelude.{◌≡◌, IfOk};
-ghost use Rattle.tecol_driver.specs.Made.{IsMade, IsMadeOf, IsMadeOfSource, IsVerdict};
+ghost use Rattle.std.specs.Prelude.{◌≡◌, IfOk, option_map};
+ghost use Rattle.tecol_driver.specs.Made.{IsFixed, IsMade, IsMadeOf, IsMadeOfSource, IsVerdict};
 
+use crate::diffing::diff;
 use crate::line::{TecolLine, TecolMode};
+use crate::respelling::{Source, respelled};
+use crate::synonyms::changes_in;
 use std::alloc::Global;
 use teco_core::NoMemory;
 use teco_lint::{check, report};
@@ -12,8 +15,10 @@ use teco_source::{ReaderFault, beginnings, commands, listing};
 /// What was made.
 #[derive(Drop)]
 pub enum Made {
-    /// Bytes, a listing, or the lines of a check that found no fault.
+    /// Bytes, a listing, a diff, or the lines of a check by which the commands are clean.
     Fine(Vec<u8>),
+    /// The lines of a check that found no fault, and did not look into all.
+    Unchecked(Vec<u8>),
     /// The lines of a check that found a fault.
     Faulty(Vec<u8>),
     /// Nothing: in the source a caret at this place cannot be read.
@@ -36,7 +41,29 @@ fn check_in(
     if advice.is_faulty {
         return Ok(Made::Faulty(lines));
     }
+    if advice.is_unclean {
+        return Ok(Made::Unchecked(lines));
+    }
     Ok(Made::Fine(lines))
+}
+
+/// The diff of a source to the one in which the synonyms of its commands are spelled otherwise. `places` is as in [`check_in`].
+fn fix_in<'a>(
+    alloc: Global,
+    name: &str,
+    source: &'a [u8],
+    places: Option<&'a [usize]>,
+    commands: &[u8],
+) -> Result<Made, NoMemory>
+    ensures { IfOk result (IsFixed name.now source.now (option_map (λ it. it.now) places.entry) commands.now) }
+{
+    let source = Source {
+        bytes: source,
+        places,
+    };
+    let changes = changes_in(alloc, commands)?;
+    let new = respelled(alloc, source, &changes)?;
+    Ok(Made::Fine(diff(alloc, name, source.bytes, &new)?))
 }
 
 /// What is made of a source that stands for these commands.
@@ -46,7 +73,7 @@ fn make_of_commands(
     source: &[u8],
     bytes: Vec<u8>,
 ) -> Result<Made, NoMemory>
-    ensures { IfOk result (IsMadeOf line.now.profile line.now.mode bytes.items) }
+    ensures { IfOk result (IsMadeOf line.now line.now.mode source.now bytes.items) }
 {
     match line.mode {
         TecolMode::CheckSource => {
@@ -57,6 +84,10 @@ fn make_of_commands(
             };
             check_in(alloc, line.input.as_str(), source, Some(&places), commands)
         }
+        TecolMode::FixSource => {
+            let places = beginnings(alloc, source)?;
+            fix_in(alloc, line.input.as_str(), source, Some(&places), &bytes)
+        }
         TecolMode::Again => Ok(Made::Fine(listing(alloc, line.profile, &bytes, line.words)?)),
         _ => Ok(Made::Fine(bytes)),
     }
@@ -64,7 +95,7 @@ fn make_of_commands(
 
 /// What is made of a source.
 fn make_of_source(alloc: Global, line: &TecolLine, source: &[u8]) -> Result<Made, NoMemory>
-    ensures { IfOk result (IsMadeOfSource line.now.profile line.now.mode source.now) }
+    ensures { IfOk result (IsMadeOfSource line.now line.now.mode source.now) }
 {
     match commands(alloc, source) {
         Ok(bytes) => make_of_commands(alloc, line, source, bytes),
@@ -75,7 +106,7 @@ fn make_of_source(alloc: Global, line: &TecolLine, source: &[u8]) -> Result<Made
 
 /// What the line asks to be made of an input.
 pub fn make(alloc: Global, line: &TecolLine, input: &[u8]) -> Result<Made, NoMemory>
-    ensures { IfOk result (IsMade line.now.profile line.now.mode input.now) }
+    ensures { IfOk result (IsMade line.now input.now) }
 {
     match line.mode {
         TecolMode::Listing => Ok(Made::Fine(listing(alloc, line.profile, input, line.words)?)),
@@ -86,6 +117,7 @@ pub fn make(alloc: Global, line: &TecolLine, input: &[u8]) -> Result<Made, NoMem
             };
             check_in(alloc, line.input.as_str(), input, None, commands)
         }
+        TecolMode::FixBytes => fix_in(alloc, line.input.as_str(), input, None, input),
         _ => make_of_source(alloc, line, input),
     }
 }

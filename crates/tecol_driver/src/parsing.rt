@@ -1,8 +1,8 @@
 //! The program's command line.
 ghost use Rattle.clap.specs.Words.{first_of, found_of, rows_of};
-ghost use Rattle.std.specs.Prelude.{◌≡◌, ⊤, IfErr, IfOk, codes, map, unwrap_or};
+ghost use Rattle.std.specs.Prelude.{◌≡◌, ⊤, IfErr, IfOk, codes, is_some, map, unwrap_or};
 ghost use Rattle.std.specs.String.{string_bytes};
-ghost use Rattle.tecol_driver.specs.CommandLine.{GivesLine, SayLine, SayNoLine, GivesNoLine, mode_by, tecol_rules};
+ghost use Rattle.tecol_driver.specs.CommandLine.{GivesLine, SayLine, SayNoLine, GivesNoLine, go_apart, mode_by, tecol_rules};
 ghost use Rattle.teco_cli.specs.OptionTable.{rule_by};
 
 use crate::line::{TecolLine, TecolMode};
@@ -32,7 +32,7 @@ static PROGRAM: Program = Program {
 };
 
 /// Every option, in the order of the help, and then the file.
-static ARGUMENTS: [OptionRow; 6] = [
+static ARGUMENTS: [OptionRow; 7] = [
     OptionRow {
         name: "reverse",
         short: Some('r'),
@@ -53,6 +53,13 @@ static ARGUMENTS: [OptionRow; 6] = [
         takes: Takes::Nothing,
         value: "",
         help: "Prints what is wrong, and runs nothing",
+    },
+    OptionRow {
+        name: "fix",
+        short: None,
+        takes: Takes::Nothing,
+        value: "",
+        help: "Prints with --check a diff instead, from spellings of the wider language to those of both",
     },
     OptionRow {
         name: "output",
@@ -103,15 +110,30 @@ fn text_at(alloc: Global, matches: &ArgMatches, name: &str) -> Result<String, No
 }
 
 /// What is made by these flags.
-fn mode_by(reverse: bool, words: bool, check: bool) -> TecolMode
-    ensures { result ≡ mode_by reverse words check }
+fn mode_by(reverse: bool, words: bool, check: bool, fix: bool) -> TecolMode
+    ensures { result ≡ mode_by reverse words check fix }
 {
-    match (check, reverse, words) {
-        (true, true, _) => TecolMode::CheckBytes,
-        (true, false, _) => TecolMode::CheckSource,
-        (false, true, _) => TecolMode::Listing,
-        (false, false, true) => TecolMode::Again,
-        (false, false, false) => TecolMode::Bytes,
+    match (check, fix, reverse, words) {
+        (true, false, true, _) => TecolMode::CheckBytes,
+        (true, false, false, _) => TecolMode::CheckSource,
+        (true, true, true, _) => TecolMode::FixBytes,
+        (true, true, false, _) => TecolMode::FixSource,
+        (false, _, true, _) => TecolMode::Listing,
+        (false, _, false, true) => TecolMode::Again,
+        (false, _, false, false) => TecolMode::Bytes,
+    }
+}
+
+/// What is told of flags that don't go together, if they don't.
+fn conflict_by(words: bool, check: bool, fix: bool) -> Option<&'static str>
+    ensures { is_some result ≡ go_apart words check fix }
+{
+    if check && words {
+        Some("the argument '--check' cannot be used with '--words'")
+    } else if fix && !check {
+        Some("the argument '--fix' needs '--check'")
+    } else {
+        None
     }
 }
 
@@ -123,14 +145,14 @@ fn line_in<'a>(alloc: Global, matches: &ArgMatches<'a>) -> Result<TecolLine, Lin
     let reverse = flag_at(matches, "reverse");
     let words = flag_at(matches, "words");
     let check = flag_at(matches, "check");
-    if check && words {
-        let why = "the argument '--check' cannot be used with '--words'";
+    let fix = flag_at(matches, "fix");
+    if let Some(why) = conflict_by(words, check, fix) {
         return Err(LineFault::Refused(faulty(alloc, why, USAGE)?));
     }
     Ok(TecolLine {
         input: text_at(alloc, matches, "input")?,
         output: text_at(alloc, matches, "output")?,
-        mode: mode_by(reverse, words, check),
+        mode: mode_by(reverse, words, check, fix),
         profile: profile_at(matches),
         words,
     })

@@ -9,7 +9,7 @@ ghost use Rattle.tecol_driver.specs.Program.{KeepsBy};
 ghost use Rattle.teco_fs.specs.Refusing.{Tells};
 ghost use Rattle.teco_fs.specs.Seen.{KeepsDisk, host, disk_seen};
 
-use crate::fate::{TecolFate, no_output, status};
+use crate::fate::{TecolFate, Verdict, no_output, status};
 use crate::line::TecolLine;
 use crate::made::{Made, make};
 use crate::reading::{input_of_file, input_of_stream};
@@ -73,14 +73,15 @@ fn put<T: Terminal, D: Disk>(
     }
 }
 
-/// How the run ends whose output is written, if a check found a fault or not, and if this could not be kept.
-fn fate_put(is_faulty: bool, unkept: Option<Unkept>) -> TecolFate
-    ensures { result ≡ fate_put is_faulty unkept }
+/// How the run ends whose output is written, by what was found, and if this could not be kept.
+fn fate_put(verdict: Verdict, unkept: Option<Unkept>) -> TecolFate
+    ensures { result ≡ fate_put verdict unkept }
 {
-    if is_faulty {
-        return TecolFate::Faulty(unkept);
+    match verdict {
+        Verdict::Clean => TecolFate::Done(unkept),
+        Verdict::Unchecked => TecolFate::Unchecked(unkept),
+        Verdict::Faulty => TecolFate::Faulty(unkept),
     }
-    TecolFate::Done(unkept)
 }
 
 /// Makes of the input what the line says, and writes it.
@@ -93,17 +94,18 @@ fn make_and_put<T: Terminal, D: Disk>(
     disk: &mut D,
 ) -> TecolFate
     ensures { let seen = disk_seen D.Disk D.Input.Source in
-        MakesAndPuts (IsMade line.now.profile line.now.mode input.now) input.now
+        MakesAndPuts (IsMade line.now input.now) input.now
         (output_of T.screen line.now (seen disk.old) (seen disk.new) term.old term.new) result }
 {
-    let (bytes, is_faulty) = match make(alloc, line, input) {
-        Ok(Made::Fine(bytes)) => (bytes, false),
-        Ok(Made::Faulty(bytes)) => (bytes, true),
+    let (bytes, verdict) = match make(alloc, line, input) {
+        Ok(Made::Fine(bytes)) => (bytes, Verdict::Clean),
+        Ok(Made::Unchecked(bytes)) => (bytes, Verdict::Unchecked),
+        Ok(Made::Faulty(bytes)) => (bytes, Verdict::Faulty),
         Ok(Made::Unreadable(at)) => return TecolFate::Unreadable(spot_in(input, at)),
         Err(NoMemory) => return TecolFate::NoMemory,
     };
     match put(alloc, line, number, &bytes, term, disk) {
-        Ok(unkept) => fate_put(is_faulty, unkept),
+        Ok(unkept) => fate_put(verdict, unkept),
         Err(failed) => failed,
     }
 }

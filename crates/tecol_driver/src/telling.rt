@@ -59,6 +59,7 @@ pub fn text_of(alloc: Global, line: &TecolLine, fate: TecolFate) -> Result<Strin
     let input = line.input.as_str();
     match fate {
         TecolFate::Done(unkept) => kept_text(alloc, line, unkept),
+        TecolFate::Unchecked(unkept) => kept_text(alloc, line, unkept),
         TecolFate::Faulty(unkept) => kept_text(alloc, line, unkept),
         TecolFate::Unreadable(spot) => unreadable(alloc, input, spot),
         TecolFate::NoInput(reason) => said_why(alloc, "cannot read ", input, reason),

@@ -10,6 +10,6 @@ if get(b:, 'teco_bytes', 0)
 else
   CompilerSet makeprg=tecol\ -c\ %:S
 endif
-CompilerSet errorformat=%I%f:%l:%c:\ hint:\ %m,%W%f:%l:%c:\ not\ checked:\ %m,%E%f:%l:%c:\ %m
+CompilerSet errorformat=%W%f:%l:%c:\ hint:\ not\ checked:\ %m,%I%f:%l:%c:\ hint:\ %m,%E%f:%l:%c:\ %m
 let &cpo = s:cpo
 unlet s:cpo

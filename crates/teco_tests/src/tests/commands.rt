@@ -69,10 +69,13 @@ pub(crate) const COMMANDS: &str = "
     ' => => ILL => 0
     !a! => => UTC => 0
     \x1b => => => 0
-    // No commands, and a filler before one.
+    // No commands, of which Wide has some, and a filler before one.
     EQ => => UTC => 0
     ? => => ILL => 0
     ^B => => ILL => 0
+    ^Q => => ILL => 0
+    FD/a\x1b/ => => UTC => 0
+    FK/a\x1b/ => => UTC => 0
       J => => => 0
     ";
 

@@ -13,3 +13,4 @@ mod places;
 mod profiles;
 mod seeking;
 pub(crate) mod strings;
+mod wide_forms;

@@ -2,8 +2,9 @@
 mod breaks;
 mod exits;
 mod failing_terminals;
-mod history;
+pub(crate) mod history;
 mod pages;
+mod profiles;
 pub(crate) mod random;
 mod records;
 mod refusals;

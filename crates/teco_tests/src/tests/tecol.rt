@@ -2,6 +2,7 @@
 //! run of `tecol` writes and tells.
 mod checks;
 mod depths;
+mod fixes;
 mod listings;
 mod made;
 pub(crate) mod runs;

@@ -1,4 +1,4 @@
-use Rattle.std.proofs.Common.{rules, ◌≡◌, ◌<◌, ◌≤◌, ℕ, suc, true, false, Bool, [], ◌∷◌, length, drop, IfOk, IfErr, Some, is_ok, is_none, Ok, Result, refl, sym, ap, ◌∙◌, subst, arith}
+use Rattle.std.proofs.Common.{rules, ◌≡◌, ◌<◌, ◌≤◌, ◌&&◌, ℕ, suc, true, false, Bool, [], ◌∷◌, length, drop, IfOk, IfErr, Some, is_ok, is_none, Ok, Result, refl, sym, ap, ◌∙◌, subst, arith}
 use Rattle.std.proofs.lemmas.Grind.{common_steps}
 use Rattle.std.proofs.lemmas.Result.{err_from_is_err_and}
 use Rattle.teco_scan.specs.declared.blocks.Kind.TheVariants.{Iter, Then, Else}
@@ -10,13 +10,13 @@ use Rattle.teco_scan.specs.declared.token.TokenKind.{TokenKind}
 use Rattle.teco_scan.specs.Seen.{instruction_in, item_in, bytes_in, meaning_in}
 use Rattle.teco_scan.specs.Closes.{close_of}
 use Rattle.teco_scan.specs.Lists.{Listed, Close, closed, broken, at_instruction, list_at}
-use Rattle.teco_check.specs.Clean.{is_fine, is_clean}
+use Rattle.teco_check.specs.Clean.{is_fine, is_clean, is_whole, is_written_out}
 use Rattle.teco_check.specs.declared.faults.Fault.{Fault}
 use Rattle.teco_check.specs.Checked.{item_holds, lands_below, held, may_hold, rest_clean, suits, code_of}
 use Rattle.teco_check.proofs.Open.{opens, text_clean}
 use Rattle.teco_check.proofs.Places.{scan_same}
 use Rattle.teco_scan.proofs.WalkUnrolls.{place_is}
-use Rattle.teco_check.proofs.Inner.{token_long, a_text, fine_text, wrong_text, text_may, none_may, behind_is, behind_may, whole_is, whole_may, wrong_behind}
+use Rattle.teco_check.proofs.Inner.{token_long, a_text, fine_text, wrong_text, text_may, none_may, out_of, whole_may, whole_of}
 use Rattle.teco_check.proofs.Unrolls.{scanned_at, begins_more, block_opens, one_more}
 use Rattle.teco_scan.specs.Walk.{OpenList}
 use Rattle.teco_scan.specs.Walk as walked
@@ -450,27 +450,6 @@ pub check_gathered-returns-in-Err-clause-clean : goal.check_gathered-returns-in-
 unfolding lands_below
 check_gathered-returns-in-Err-clause-clean t c = text_clean c.args.look.profile c.args.look.texts c.args.look.code.now c.args.text.now false (c.in-Err.ensures.clean [] (λ name. refl))
 
-pub wrong_of-returns-then-modifiers-eq1-clause-fine : goal.wrong_of-returns-then-modifiers-eq1-clause-fine
-wrong_of-returns-then-modifiers-eq1-clause-fine t c lists are =
-    let profile = c.args.look.profile in
-    let text = c.args.text.now in
-    let code = c.args.look.code.now in
-    let n = c.args.look.texts in
-    let is : c.args.item ≡ a_text c.in-SetText.field-0 c.in-SetText.span = search rules in
-    let on : c.holds_code-holds.result ≡ true = search rules in
-    let held_on : held code c.in-SetText.field-0 ≡ true = sym (ap (λ (x : SpannedItem). item_holds (held code) x) is) ∙ sym c.holds_code-holds.ensures ∙ on in
-    fine_text profile n code text lists c.args.modifiers c.args.item c.in-SetText.field-0 c.in-SetText.span false is held_on (behind_may c.args.modifiers (may_hold profile n code (bytes_in text c.in-SetText.span)) (behind_is c.args.modifiers c.if-modifiers-eq1.true))
-
-pub wrong_of-returns-then-modifiers-eq1-clause-first : goal.wrong_of-returns-then-modifiers-eq1-clause-first
-wrong_of-returns-then-modifiers-eq1-clause-first t c lists long there =
-    let text = c.args.text.now in
-    let code = c.args.look.code.now in
-    let n = c.args.look.texts in
-    let is : c.args.item ≡ a_text c.in-SetText.field-0 c.in-SetText.span = search rules in
-    let on : c.holds_code-holds.result ≡ true = search rules in
-    let held_on : held code c.in-SetText.field-0 ≡ true = sym (ap (λ (x : SpannedItem). item_holds (held code) x) is) ∙ sym c.holds_code-holds.ensures ∙ on in
-    sym (wrong_behind c.args.look.profile n code text lists c.args.modifiers c.args.item c.in-SetText.field-0 c.in-SetText.span is held_on (behind_is c.args.modifiers c.if-modifiers-eq1.true))
-
 pub wrong_of-returns-then-look-eq0-clause-fine : goal.wrong_of-returns-then-look-eq0-clause-fine
 wrong_of-returns-then-look-eq0-clause-fine t c lists are =
     let profile = c.args.look.profile in
@@ -480,7 +459,10 @@ wrong_of-returns-then-look-eq0-clause-fine t c lists are =
     let is : c.args.item ≡ a_text c.in-SetText.field-0 c.in-SetText.span = search rules in
     let on : c.holds_code-holds.result ≡ true = search rules in
     let held_on : held code c.in-SetText.field-0 ≡ true = sym (ap (λ (x : SpannedItem). item_holds (held code) x) is) ∙ sym c.holds_code-holds.ensures ∙ on in
-    fine_text profile n code text lists c.args.modifiers c.args.item c.in-SetText.field-0 c.in-SetText.span false is held_on (whole_may c.args.modifiers (may_hold profile n code (bytes_in text c.in-SetText.span)) false (whole_is c.args.modifiers c.if-modifiers-eq1.false) (none_may profile n code (bytes_in text c.in-SetText.span) c.if-look-eq0.true))
+    let inside = bytes_in text c.in-SetText.span in
+    let all_of : c.is_all.result ≡ true = search rules in
+    let all : is_whole c.args.modifiers && is_written_out c.args.look.profile inside ≡ true = sym c.is_all.ensures ∙ all_of in
+    fine_text profile n code text lists c.args.modifiers c.args.item c.in-SetText.field-0 c.in-SetText.span false is held_on (whole_may (is_whole c.args.modifiers) (may_hold profile n code (bytes_in text c.in-SetText.span)) false (whole_of (is_whole c.args.modifiers) (is_written_out c.args.look.profile inside) all) (none_may profile n code (bytes_in text c.in-SetText.span) c.if-look-eq0.true (out_of (is_whole c.args.modifiers) (is_written_out c.args.look.profile inside) all)))
 
 pub wrong_of-returns-then-look-eq0-clause-first : goal.wrong_of-returns-then-look-eq0-clause-first
 wrong_of-returns-then-look-eq0-clause-first t c lists long there =
@@ -491,7 +473,10 @@ wrong_of-returns-then-look-eq0-clause-first t c lists long there =
     let is : c.args.item ≡ a_text c.in-SetText.field-0 c.in-SetText.span = search rules in
     let on : c.holds_code-holds.result ≡ true = search rules in
     let held_on : held code c.in-SetText.field-0 ≡ true = sym (ap (λ (x : SpannedItem). item_holds (held code) x) is) ∙ sym c.holds_code-holds.ensures ∙ on in
-    sym (wrong_text profile n code text lists c.args.modifiers c.args.item c.in-SetText.field-0 c.in-SetText.span is held_on false (whole_is c.args.modifiers c.if-modifiers-eq1.false) (none_may profile n code (bytes_in text c.in-SetText.span) c.if-look-eq0.true))
+    let inside = bytes_in text c.in-SetText.span in
+    let all_of : c.is_all.result ≡ true = search rules in
+    let all : is_whole c.args.modifiers && is_written_out c.args.look.profile inside ≡ true = sym c.is_all.ensures ∙ all_of in
+    sym (wrong_text profile n code text lists c.args.modifiers c.args.item c.in-SetText.field-0 c.in-SetText.span is held_on false all (none_may profile n code (bytes_in text c.in-SetText.span) c.if-look-eq0.true (out_of (is_whole c.args.modifiers) (is_written_out c.args.look.profile inside) all)))
 
 pub wrong_of-returns-then-is_none-clause-fine : goal.wrong_of-returns-then-is_none-clause-fine
 wrong_of-returns-then-is_none-clause-fine t c lists are =
@@ -502,10 +487,13 @@ wrong_of-returns-then-is_none-clause-fine t c lists are =
     let is : c.args.item ≡ a_text c.in-SetText.field-0 c.in-SetText.span = search rules in
     let on : c.holds_code-holds.result ≡ true = search rules in
     let held_on : held code c.in-SetText.field-0 ≡ true = sym (ap (λ (x : SpannedItem). item_holds (held code) x) is) ∙ sym c.holds_code-holds.ensures ∙ on in
+    let inside = bytes_in text c.in-SetText.span in
+    let all_of : c.is_all.result ≡ true = search rules in
+    let all : is_whole c.args.modifiers && is_written_out c.args.look.profile inside ≡ true = sym c.is_all.ensures ∙ all_of in
     let told : is_none c.check_text.result ≡ true = search rules in
     let may : may_hold profile n code (bytes_in text c.in-SetText.span) ≡ true
-    = text_may profile n code (bytes_in text c.in-SetText.span) true c.if-look-eq0.false (c.check_text.ensures.clean ∙ told) in
-    fine_text profile n code text lists c.args.modifiers c.args.item c.in-SetText.field-0 c.in-SetText.span true is held_on (whole_may c.args.modifiers (may_hold profile n code (bytes_in text c.in-SetText.span)) true (whole_is c.args.modifiers c.if-modifiers-eq1.false) may)
+    = text_may profile n code (bytes_in text c.in-SetText.span) true (out_of (is_whole c.args.modifiers) (is_written_out c.args.look.profile inside) all) c.if-look-eq0.false (c.check_text.ensures.clean ∙ told) in
+    fine_text profile n code text lists c.args.modifiers c.args.item c.in-SetText.field-0 c.in-SetText.span true is held_on (whole_may (is_whole c.args.modifiers) (may_hold profile n code (bytes_in text c.in-SetText.span)) true (whole_of (is_whole c.args.modifiers) (is_written_out c.args.look.profile inside) all) may)
 
 pub wrong_of-returns-then-is_none-clause-first : goal.wrong_of-returns-then-is_none-clause-first
 wrong_of-returns-then-is_none-clause-first t c lists long there =
@@ -516,10 +504,13 @@ wrong_of-returns-then-is_none-clause-first t c lists long there =
     let is : c.args.item ≡ a_text c.in-SetText.field-0 c.in-SetText.span = search rules in
     let on : c.holds_code-holds.result ≡ true = search rules in
     let held_on : held code c.in-SetText.field-0 ≡ true = sym (ap (λ (x : SpannedItem). item_holds (held code) x) is) ∙ sym c.holds_code-holds.ensures ∙ on in
+    let inside = bytes_in text c.in-SetText.span in
+    let all_of : c.is_all.result ≡ true = search rules in
+    let all : is_whole c.args.modifiers && is_written_out c.args.look.profile inside ≡ true = sym c.is_all.ensures ∙ all_of in
     let told : is_none c.check_text.result ≡ true = search rules in
     let may : may_hold profile n code (bytes_in text c.in-SetText.span) ≡ true
-    = text_may profile n code (bytes_in text c.in-SetText.span) true c.if-look-eq0.false (c.check_text.ensures.clean ∙ told) in
-    sym (wrong_text profile n code text lists c.args.modifiers c.args.item c.in-SetText.field-0 c.in-SetText.span is held_on true (whole_is c.args.modifiers c.if-modifiers-eq1.false) may)
+    = text_may profile n code (bytes_in text c.in-SetText.span) true (out_of (is_whole c.args.modifiers) (is_written_out c.args.look.profile inside) all) c.if-look-eq0.false (c.check_text.ensures.clean ∙ told) in
+    sym (wrong_text profile n code text lists c.args.modifiers c.args.item c.in-SetText.field-0 c.in-SetText.span is held_on true all may)
 
 pub wrong_of-returns-else-is_none-clause-fine : goal.wrong_of-returns-else-is_none-clause-fine
 wrong_of-returns-else-is_none-clause-fine t c lists are =
@@ -530,10 +521,13 @@ wrong_of-returns-else-is_none-clause-fine t c lists are =
     let is : c.args.item ≡ a_text c.in-SetText.field-0 c.in-SetText.span = search rules in
     let on : c.holds_code-holds.result ≡ true = search rules in
     let held_on : held code c.in-SetText.field-0 ≡ true = sym (ap (λ (x : SpannedItem). item_holds (held code) x) is) ∙ sym c.holds_code-holds.ensures ∙ on in
+    let inside = bytes_in text c.in-SetText.span in
+    let all_of : c.is_all.result ≡ true = search rules in
+    let all : is_whole c.args.modifiers && is_written_out c.args.look.profile inside ≡ true = sym c.is_all.ensures ∙ all_of in
     let told : is_none c.check_text.result ≡ false = search rules in
     let may : may_hold profile n code (bytes_in text c.in-SetText.span) ≡ false
-    = text_may profile n code (bytes_in text c.in-SetText.span) false c.if-look-eq0.false (c.check_text.ensures.clean ∙ told) in
-    fine_text profile n code text lists c.args.modifiers c.args.item c.in-SetText.field-0 c.in-SetText.span false is held_on (whole_may c.args.modifiers (may_hold profile n code (bytes_in text c.in-SetText.span)) false (whole_is c.args.modifiers c.if-modifiers-eq1.false) may)
+    = text_may profile n code (bytes_in text c.in-SetText.span) false (out_of (is_whole c.args.modifiers) (is_written_out c.args.look.profile inside) all) c.if-look-eq0.false (c.check_text.ensures.clean ∙ told) in
+    fine_text profile n code text lists c.args.modifiers c.args.item c.in-SetText.field-0 c.in-SetText.span false is held_on (whole_may (is_whole c.args.modifiers) (may_hold profile n code (bytes_in text c.in-SetText.span)) false (whole_of (is_whole c.args.modifiers) (is_written_out c.args.look.profile inside) all) may)
 
 pub wrong_of-returns-else-is_none-clause-first : goal.wrong_of-returns-else-is_none-clause-first
 wrong_of-returns-else-is_none-clause-first t c lists long there =
@@ -544,10 +538,13 @@ wrong_of-returns-else-is_none-clause-first t c lists long there =
     let is : c.args.item ≡ a_text c.in-SetText.field-0 c.in-SetText.span = search rules in
     let on : c.holds_code-holds.result ≡ true = search rules in
     let held_on : held code c.in-SetText.field-0 ≡ true = sym (ap (λ (x : SpannedItem). item_holds (held code) x) is) ∙ sym c.holds_code-holds.ensures ∙ on in
+    let inside = bytes_in text c.in-SetText.span in
+    let all_of : c.is_all.result ≡ true = search rules in
+    let all : is_whole c.args.modifiers && is_written_out c.args.look.profile inside ≡ true = sym c.is_all.ensures ∙ all_of in
     let told : is_none c.check_text.result ≡ false = search rules in
     let may : may_hold profile n code (bytes_in text c.in-SetText.span) ≡ false
-    = text_may profile n code (bytes_in text c.in-SetText.span) false c.if-look-eq0.false (c.check_text.ensures.clean ∙ told) in
-    sym (wrong_text profile n code text lists c.args.modifiers c.args.item c.in-SetText.field-0 c.in-SetText.span is held_on false (whole_is c.args.modifiers c.if-modifiers-eq1.false) may)
+    = text_may profile n code (bytes_in text c.in-SetText.span) false (out_of (is_whole c.args.modifiers) (is_written_out c.args.look.profile inside) all) c.if-look-eq0.false (c.check_text.ensures.clean ∙ told) in
+    sym (wrong_text profile n code text lists c.args.modifiers c.args.item c.in-SetText.field-0 c.in-SetText.span is held_on false all may)
 
 pub check_list-returns-in-Some-clause-within : goal.check_list-returns-in-Some-clause-within
 check_list-returns-in-Some-clause-within t c = grind (arith, common_steps)

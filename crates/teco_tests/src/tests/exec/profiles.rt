@@ -1,7 +1,10 @@
 //! Runs in each profile.
 use super::strings::is_code;
+use super::wide_forms::{SEARCHES, UNDONE, VALUES};
 use crate::tests::bytes::{are, wide_screen};
 use crate::tests::rows::{Rule, all_hold, cells_of};
+use crate::tests::session::history::comes_back;
+use crate::tests::store::states::seen;
 use std::alloc::Global;
 use std::test::*;
 use teco_core::Profile;
@@ -49,27 +52,30 @@ static ROWS: &str = "
     // What is in both.
     3<%A>QA= => 3\r\n => => 3\r\n
     \"?1=' => => IQC => => IQC
-    1=== => => ILL => => ILL
     ";
 
-/// Whether a session in Wide goes back and forth, and stays in Wide.
-fn goes_back_and_forth(alloc: Global) -> bool {
-    let editor = Editor::new(Vec::new(alloc)).with_profile(Profile::Wide);
-    match Session::over(editor, None) {
-        Ok(mut session) => {
-            let _answer = session.run(b"0\"=Iab\x1b'", 100, &mut wide_screen(alloc));
-            session.editor().pointer() == 2
-                && session.undo().is_ok()
-                && session.editor().pointer() == 0
-                && session.redo().is_ok()
-                && session.editor().profile() == Profile::Wide
+#[derive(Clone, Copy)]
+struct Returns;
+
+impl Rule for Returns {
+    /// A text that is run in a session in Wide is undone and redone, and the session stays in Wide.
+    fn holds(&self, alloc: Global, row: &str) -> bool {
+        let editor = Editor::new(Vec::new(alloc)).with_profile(Profile::Wide);
+        let (first, mut term) = (seen(alloc, &editor), wide_screen(alloc));
+        match Session::over(editor, None) {
+            Ok(mut session) => {
+                comes_back(alloc, &mut session, &first, row.as_bytes(), &mut term)
+                    && session.editor().profile() == Profile::Wide
+            }
+            Err(_) => false,
         }
-        Err(_) => false,
     }
 }
 
 #[test]
 fn profiles_run_so(rt: HostRuntime) {
     all_hold(&rt, rt.alloc(), &Ended, ROWS);
-    assert!(rt; goes_back_and_forth(rt.alloc()) || goes_back_and_forth(rt.alloc()));
+    all_hold(&rt, rt.alloc(), &Ended, VALUES);
+    all_hold(&rt, rt.alloc(), &Ended, SEARCHES);
+    all_hold(&rt, rt.alloc(), &Returns, UNDONE);
 }

@@ -14,6 +14,8 @@ pub(crate) const ROWS: &str = "
     - teco --check -f open -e >EX$$ none => => => => => => open == Y<J\n
     - teco --check -p 3M?$ none => => --pages:1:2: IQN: after M comes a register, A to Z or 0 to 9\n => => => 2
     - teco --check -p J<FSi$o;> none => => --pages:1:3: UTC: the second text of FS has no ESC; two ESC end the command string\n => => => 2
+    - teco --check -e YXAMAEX$$ none => => --execute:1:2: hint: not checked: XA puts what no check can see into a register that is called\n
+    - teco --check -p XAMA>< none => => --pages:1:5: BNI: > has no <\n--pages:1:6: UTC: < has no >\n => => => 2
     - teco --check -b bytes none => => bytes:2:1: IQN: after M comes a register, A to Z or 0 to 9\n => => => 2 => bytes == Y\nM?\x1b\x1bEX\x1b\x1b
     - // A conditional of which a shell took the end.
     - teco --check -e YZ\"GIa$EX$$ none => => --execute:1:3: UTC: \"G has no '; between single quotes of a shell ' is spelled ^`\n => => => 2

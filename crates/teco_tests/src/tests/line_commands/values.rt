@@ -31,4 +31,6 @@ pub(crate) const ROWS: &str = "
     - teco --check -v A=D -e YMAEX$$ none =>
     - teco --check -v A:=5 -e YMAEX$$ none => => --execute:1:2: hint: A is called, and nothing puts a text into it\n
     - teco --check -v A=3M? -v 0=<D -e YMAM?M0EX$$ none => => --execute:1:4: IQN: after M comes a register, A to Z or 0 to 9\n--assign A:1:2: IQN: after M comes a register, A to Z or 0 to 9\n--assign 0:1:1: UTC: < has no >\n => => => 2
-    - teco --check -v A=XB -v B=D -e YMAMBEX$$ none => => --assign A:1:1: not checked: XB puts what no check can see into a register that is called\n => => => 2";
+    - teco --check -v A=XB -v B=D -e YMAMBEX$$ none => => --assign A:1:1: hint: not checked: XB puts what no check can see into a register that is called\n
+    - teco --check -v A=XB{ -v B=D -e YMAMBEX$$ none => => --assign A:1:1: hint: not checked: XB puts what no check can see into a register that is called\n--assign A:1:3: ILL: no command begins with {\n => => => 2
+    - teco -v A=XB -v B=D> -e YMAMBEX$$ in => => => --assign B:1:2: BNI: > has no <\n => => 3 => in == hi\n";

@@ -12,6 +12,10 @@ pub(crate) const ROWS: &str = "
     - // What is typed is undone and redone.
     - teco --wide in => YJ:XA:QA=\x1b\x1b:XA:QA=\x1b\x1b{\x1b\x1b:QA=\x1b\x1b => 3\r\n6\r\n3\r\n => => => 2 => in == hi\n
     - teco in => YJ:XA\x1b\x1b => ?ILL\r\n => => => 2 => in == hi\n
+    - teco --wide in => YFKi\x1b65^UA\x1b3,4UBUC\x1b\x1b{\x1b\x1b}\x1b\x1bHT:GAQB=QC=\x1b\x1b => \nA4\r\n3\r\n => => => 2 => in == hi\n
+    - teco --wide in => YFKi\x1b65^UA\x1b3,4UBUC\x1b\x1b{\x1b\x1bZ=:QA=QB=QC=\x1b\x1b => 0\r\n0\r\n0\r\n0\r\n => => => 2 => in == hi\n
+    - teco --wide in => Y::FSh\x1bx\x1b=JFDx\x1b0QA===^Q===\x1b\x1b}\x1b\x1b{\x1b\x1b{\x1b\x1b => -1\r\nFFFFFFFF\r\n2\r\n?NTR\r\n?NTU\r\n => => => 2 => in == hi\n
+    - teco in => YFDh\x1b\x1b::FSh\x1bx\x1b\x1b1===\x1b\x1b^Q=\x1b\x1b1\"C2='\x1b\x1b0QA=\x1b\x1b1,2UA\x1b\x1b65^UA\x1b\x1bHT\x1b\x1b => ?ILL\r\n?ILL\r\n?ILL\r\n?ILL\r\n?IQC\r\n?ARG\r\n?ARG\r\n?ARG\r\nhi\n => => => 2 => in == hi\n
     - // A check by it, and what is explained.
     - teco --wide --check -e YJ0\"=1='EX$$ none => => => => => => in == hi\n
     - teco --wide --check -v A=0\"=Q?' -e YMAEX$$ none => => --assign A:1:4: IQN: after Q comes a register, A to Z or 0 to 9\n => => => 2
@@ -36,6 +40,13 @@ pub(crate) const ROWS: &str = "
     - // What a search found, and what it found into a register.
     - teco --wide in => YJ:Sfoo\x1b\"S\x01yes\x01|\x01no\x01':Sbar\x1b\"U\x01none\x01'\x1b\x1b => yesnone => => => 2 => in == a foo\n
     - teco --wide in => YJ<Sfoo\x1b;0L:XAL>HKGAHT\x1b\x1b => foo 1\nfoo 2\n => => => 2 => in == foo 1\nbar\nfoo 2\n
+    - teco --wide in => YJSBEGIN\x1bFKEND\x1bHT\x1b\x1b => a BEGIN c\n => => => 2 => in == a BEGIN b END c\n
+    - teco --wide in => YJ<FDx\x1b;>HT\x1b\x1b => ab\n => => => 2 => in == xaxbx\n
+    - teco --wide in => YJ<::FSa\x1bb\x1b\"UC'.-Z;>HT\x1b\x1b => bbcb\n => => => 2 => in == abca\n
+    - // Two arguments, a table in a register, and lines as bytes.
+    - teco --wide in => @^UM/U1U0Q0+Q1=/3,4MM\x1b\x1b => 7\r\n => => => 2 => in == hi\n
+    - teco --wide in => @^U1/0123456789ABCDEF/10Q1^T\x1b\x1b => A => => => 2 => in == hi\n
+    - teco --wide in => YJ2^QC.=\x1b\x1b => 5\r\n => => => 2 => in == a\nbc\nd\n
     - // Pages, whose reading gives whether there was one.
     - teco --wide in => Y<J<FSa\x1bb\x1b;>:P;>EX\x1b\x1b => => => => => in == a1\n\x0c2a\n\x0caa\n => in == a1\n\x0c2a\n\x0caa\n ++ in.out == b1\n\x0c2b\n\x0cbb\n
     - teco --wide in => Y<:A;>Z=\x1b\x1b => 4\r\n => => => 2 => in == a\n\x0cb\n";

@@ -11,9 +11,9 @@ use teco_scan::{Found, token_at};
 static MODIFIERS: [(&str, &str); 4] = [(":", "[:]"), ("::", "[::]"), ("@", "[@]"), (":@", "[:@]")];
 
 /// Whether a text begins with a token where that is wanted, and else is ILL.
-fn is_read(alloc: Global, modifiers: &str, command: &str, wanted: bool) -> bool {
+fn is_read(alloc: Global, profile: Profile, modifiers: &str, command: &str, wanted: bool) -> bool {
     let text = joined(alloc, &[modifiers.as_bytes(), command.as_bytes()]);
-    match token_at(Profile::Named, &text, 0) {
+    match token_at(profile, &text, 0) {
         Found::Token(_) => wanted,
         Found::Fault(Code::Ill) => !wanted,
         _ => false,
@@ -21,7 +21,7 @@ fn is_read(alloc: Global, modifiers: &str, command: &str, wanted: bool) -> bool 
 }
 
 #[derive(Clone, Copy)]
-struct Admits;
+struct Admits(Profile);
 
 impl Rule for Admits {
     /// A command admits these modifiers, and no others of the four.
@@ -29,11 +29,27 @@ impl Rule for Admits {
         let [command, admitted, ..] = cells_of(row);
         let mut held = true;
         for (modifiers, cell) in &MODIFIERS {
-            held = is_read(alloc, modifiers, command, has(admitted, cell)) && held;
+            held = is_read(alloc, self.0, modifiers, command, has(admitted, cell)) && held;
         }
         held
     }
 }
+
+/// The commands that Wide has, or that admit others there.
+const WIDE: &str = "
+    A => [:]
+    Y => [:]
+    P => [:]
+    ; => [:]
+    Xa => [:]
+    ^Ua/b\x1b/ => [:][@][:@]
+    === => [:]
+    ^Q =>
+    \"C =>
+    FS/a\x1b/b\x1b/ => [:][::][@][:@]
+    FD/a\x1b/ => [:][@][:@]
+    FK/a\x1b/ => [:][@][:@]
+    ";
 
 /// They come in any order.
 pub(crate) const ROWS: &str = "
@@ -60,5 +76,6 @@ pub(crate) const ROWS: &str = "
 
 #[test]
 fn commands_admit_their_modifiers_alone(rt: HostRuntime) {
-    all_hold(&rt, rt.alloc(), &Admits, COMMANDS);
+    all_hold(&rt, rt.alloc(), &Admits(Profile::Named), COMMANDS);
+    all_hold(&rt, rt.alloc(), &Admits(Profile::Wide), WIDE);
 }

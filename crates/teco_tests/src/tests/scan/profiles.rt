@@ -41,6 +41,15 @@ static ROWS: &str = "
     \"= => IQC => 2
     \"< => IQC => 2
     \"> => IQC => 2
+    \"c => IQC => 2
+    // It has these commands.
+    FDab\x1b => ILL => 5
+    :@fk/ab/ => ILL => 8
+    ::FSa\x1bb\x1b => ILL => 8
+    === => ILL => 3
+    :=== => ILL => 4
+    ^Q => ILL => 2
+    \x11 => ILL => 1
     // It has what Named has.
     Xa => 2 => 2
     ^Uab\x1b => 5 => 5
@@ -52,7 +61,10 @@ static ROWS: &str = "
     ::P => ILL => ILL
     @Xa => ILL => ILL
     :J => ILL => ILL
-    === => ILL => ILL
+    ::FDa\x1b => ILL => ILL
+    ::=== => ILL => ILL
+    :^Q => ILL => ILL
+    FKa => ILL => UTC
     \"? => IQC => IQC
     \" => UTC => UTC
     :X => ILL => UTC

@@ -59,7 +59,7 @@ impl Rule for Plays {
 }
 
 /// Whether a string is undone to the first state, redone to what it left, and undone again.
-fn comes_back(
+pub(crate) fn comes_back(
     alloc: Global,
     session: &mut Session,
     first: &[u8],

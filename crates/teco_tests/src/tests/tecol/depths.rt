@@ -1,6 +1,6 @@
 //! How many texts in one another a check looks into.
 use crate::tests::assert_of;
-use crate::tests::bytes::named_text;
+use crate::tests::bytes::{has, named_text};
 use std::alloc::Global;
 use std::test::*;
 use teco_core::{NoMemory, Profile};
@@ -29,17 +29,17 @@ static ROWS: [(u8, &[u8], &str); 5] = [
     (
         9,
         b"J",
-        "-:1:609: not checked: @^UAiJi has a text inside 8 others\n",
+        "-:1:609: hint: not checked: @^UAiJi has a text inside 8 others\n",
     ),
     (
         9,
         b"J{",
-        "-:1:609: not checked: @^UAiJ{i has a text inside 8 others\n",
+        "-:1:609: hint: not checked: @^UAiJ{i has a text inside 8 others\n",
     ),
     (
         26,
         b"J",
-        "-:1:609: not checked: @^UAi<<<<<<<<<<<<<<<<<<<<<<<<<<<<<<<<<<<<... (2267 bytes) has a text inside 8 others\n",
+        "-:1:609: hint: not checked: @^UAi<<<<<<<<<<<<<<<<<<<<<<<<<<<<<<<<<<<<... (2267 bytes) has a text inside 8 others\n",
     ),
 ];
 
@@ -55,7 +55,8 @@ fn is_told(alloc: Global, row: &(u8, &[u8], &str)) -> Result<bool, NoMemory> {
         named_text(&commands),
         &advice.remarks,
     )?;
-    Ok(lines.as_bytes() == row.2.as_bytes() && advice.is_faulty != row.2.is_empty())
+    let flags = advice.is_unclean != row.2.is_empty() && advice.is_faulty == has(row.2, "ILL");
+    Ok(lines.as_bytes() == row.2.as_bytes() && flags)
 }
 
 #[test]

@@ -1,5 +1,5 @@
 //! What `tecol` makes of an input.
-use super::{checks, listings, sources};
+use super::{checks, fixes, listings, sources};
 use crate::tests::bytes::are;
 use crate::tests::rows::{Rule, all_hold, halves_at, number_or};
 use std::alloc::Global;
@@ -12,6 +12,8 @@ use tecol_driver::{Made, TecolLine, TecolMode, make};
 enum Wanted {
     /// The bytes are those of the second cell.
     Fine,
+    /// The lines of a check are those of the second cell, and tell no fault; and not all was checked.
+    Unchecked,
     /// The lines of a check are those of the second cell, and tell a fault.
     Faulty,
     /// A caret can't be read, at the place that the second cell has.
@@ -41,6 +43,7 @@ impl Rule for Makes {
         let (input, cell) = halves_at(row, " => ");
         match (self.made_of(alloc, input), self.2) {
             (Ok(Made::Fine(bytes)), Wanted::Fine) => are(&bytes, cell.as_bytes()),
+            (Ok(Made::Unchecked(lines)), Wanted::Unchecked) => are(&lines, cell.as_bytes()),
             (Ok(Made::Faulty(lines)), Wanted::Faulty) => are(&lines, cell.as_bytes()),
             (Ok(Made::Unreadable(at)), Wanted::Unreadable) => number_or(cell, u64::MAX)
                 == at as u64,
@@ -103,6 +106,22 @@ fn table(at: usize) -> (Makes, &'static str) {
         10 => (
             in_wide(TecolMode::Listing, true, Wanted::Fine),
             listings::WIDE_WORDED,
+        ),
+        11 => (
+            in_named(TecolMode::CheckSource, false, Wanted::Unchecked),
+            checks::UNCHECKED,
+        ),
+        12 => (
+            in_wide(TecolMode::CheckSource, false, Wanted::Unchecked),
+            checks::WIDE_UNCHECKED,
+        ),
+        13 => (
+            in_named(TecolMode::FixSource, false, Wanted::Fine),
+            fixes::SOURCES,
+        ),
+        14 => (
+            in_named(TecolMode::FixBytes, false, Wanted::Fine),
+            fixes::BYTES,
         ),
         _ => (in_named(TecolMode::Bytes, false, Wanted::Fine), ""),
     }

@@ -17,12 +17,22 @@ pub(crate) const ROWS: &str = "
     - // What is told of commands goes to the output; where a caret can't be read it goes to standard error, and nothing is written.
     - tecol --check in => => => => => => in == Y<\n\tFSa$b$;>EX$$\n
     - tecol -c in => => in:2:1: BNI: > has no <\n => => => 2 => in == Y$$\n>EX$$
+    - tecol -c in => => in:1:2: hint: not checked: XA puts what no check can see into a register that is called\n => => => => in == YXAMAEX$$
     - tecol -cr -o out => Y\n>EX\x1b\x1b => => => => 2 => out == old => out == -:2:1: BNI: > has no <\n
     - tecol -o out in => => => in:2:1: a caret before what it cannot stand before\n => => 2 => in == EX$$\n^7\n ++ out == old
     - tecol -c => EX^ => => -:1:3: a caret before what it cannot stand before\n => => 2
     - // A listing of bytes has no such place.
     - tecol -r in => => EX^$^$^J\n^~7^J\n => => => => in == EX$$\n^7\n
+    - // A diff of a file and of standard input, also to a file, and none where nothing changes. A fault is no failure, but a wrong caret is.
+    - tecol -c --fix in => => --- in\n+++ in\n@@ -1,1 +1,1 @@\n-0\"=J'\n+0\"EJ'\n => => => => in == 0\"=J'\n>\n
+    - tecol --wide --fix -c => 0\"=J'\n => --- -\n+++ -\n@@ -1,1 +1,1 @@\n-0\"=J'\n+0\"EJ'\n
+    - tecol -cr --fix -o out in => => => => => => in == 0\"=J'\n ++ out == old => in == 0\"=J'\n ++ out == --- in\n+++ in\n@@ -1,1 +1,1 @@\n-0\"=J'\n+0\"EJ'\n
+    - tecol --fix --check in => => => => => => in == Y$$\n>EX$$
+    - tecol -c --fix in => => => in:2:1: a caret before what it cannot stand before\n => => 2 => in == 0\"=J'\n^7\n
+    - tecol -c --fix in => => => tecol: cannot read in: there is no such file or folder\n => => 1
     - // A faulty line, of which nothing is done.
+    - tecol --fix in => => => error: the argument '--fix' needs '--check'\n\nUsage: tecol [OPTIONS] [FILE]\n\nFor more information, try '--help'.\n => => 3 => in == 0\"=J'\n
+    - tecol --fix -cw in => => => error: the argument '--check' cannot be used with '--words'\n\nUsage: tecol [OPTIONS] [FILE]\n\nFor more information, try '--help'.\n => => 3 => in == 0\"=J'\n
     - tecol -c -w -o out in => => => error: the argument '--check' cannot be used with '--words'\n\nUsage: tecol [OPTIONS] [FILE]\n\nFor more information, try '--help'.\n => => 3 => in == Y<\n\tFSa$b$;>EX$$\n ++ out == old
     - tecol in out => => => error: unexpected argument 'out' found\n\nUsage: tecol [OPTIONS] [FILE]\n\nFor more information, try '--help'.\n => => 3 => in == Y<\n\tFSa$b$;>EX$$\n ++ out == old
     - // An input that can't be read, and an output that can't be written: what was there stays.
@@ -35,6 +45,7 @@ pub(crate) const ROWS: &str = "
     - // An owner that can't be kept is told, and the output is written all the same, also of a check that finds a fault.
     - tecol -o out in => => => tecol: out: owner not kept\n => => => in == Y$$\n ++ out == old => in == Y$$\n ++ out == Y\x1b\x1b => owner
     - tecol -cr -o out => Y\n>EX\x1b\x1b => => tecol: out: owner not kept\n => => 2 => out == old => out == -:2:1: BNI: > has no <\n => owner
+    - tecol -c -o out => MA]A$$ => => tecol: out: owner not kept\n => => => out == old => out == -:1:3: hint: not checked: ]A puts what no check can see into a register that is called\n => owner
     - tecol -cr -o out => Y\n>EX\x1b\x1b => => tecol: out: changes made meanwhile not kept\n => => 1 => out == old => out == -:2:1: BNI: > has no <\n => late
     - tecol -o out in => => => tecol: out: changes made meanwhile not kept\n => => 1 => in == Y$$\n ++ out == old => in == Y$$\n ++ out == Y\x1b\x1b => late
     - // An output that can't be shown, and words that were refused memory.

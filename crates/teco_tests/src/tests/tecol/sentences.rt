@@ -13,12 +13,12 @@ static SENTENCES: [(&str, Wrong, &str); 2] = [
     (
         "MAJ",
         Wrong::Calls,
-        "not checked: MA runs a text that is not looked into",
+        "hint: not checked: MA runs a text that is not looked into",
     ),
     (
         "@^UA/<J/J",
         Wrong::InText,
-        "not checked: @^UA/<J/ has a text inside 8 others",
+        "hint: not checked: @^UA/<J/ has a text inside 8 others",
     ),
 ];
 

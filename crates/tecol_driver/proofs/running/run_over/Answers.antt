@@ -18,5 +18,5 @@ returns-in-Ok g c =
       input = c.input_of.result;
       reads = subst (λ (n : List ℕ). ReadsInput (is_standard_input n) stream n (seen c.args.disk.now) (seen c.input_of.new.disk) c.args.stream.now c.input_of.new.stream c.input_of.result) named c.input_of.ensures.reads;
       ends = subst (λ input. EndsAfter c.args.line.now input output c.make_and_put.result) (sym c.in-Ok.is)
-          (subst (λ (input : List ℕ). MakesAndPuts (IsMade c.args.line.now.profile c.args.line.now.mode input) input output c.make_and_put.result) c.deref.ensures.value c.make_and_put.ensures);
+          (subst (λ (input : List ℕ). MakesAndPuts (IsMade c.args.line.now input) input output c.make_and_put.result) c.deref.ensures.value c.make_and_put.ensures);
     }

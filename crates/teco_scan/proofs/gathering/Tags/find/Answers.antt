@@ -1,4 +1,4 @@
-use Rattle.std.proofs.Common.{◌≤◌, ℕ, List, Option, IfSome, length, sym, ◌∙◌, subst}
+use Rattle.std.proofs.Common.{◌≤◌, ℕ, Option, IfSome, length, sym, ◌∙◌, subst}
 use Rattle.std.specs.BTreeMap.{BTreeMap}
 use Rattle.teco_scan.specs.declared.gathering.ListTags.{ListTags}
 use Rattle.teco_scan.specs.Gathered.{AreTags}

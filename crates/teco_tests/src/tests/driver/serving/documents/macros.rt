@@ -22,19 +22,13 @@ pub(super) const EXAMPLES: &str = "
     // Silent differences
     @\x15A/1=Oend$2=!end!/MA$$ => 1 => ?
     // What to write in its place
-    Ione\ntwo\n$JXAL .U9 :QAU8 GA L Q9,.XA Q9,Q9+Q8K :GA$$ => onetwo => ?
-    // What to write in its place
     2UA QA-1\"EOone$' QA-2\"EOtwo$' !one!\x01one\x01 Oend$ !two!\x01two\x01 !end!$$ => two => ?
-    // What to write in its place
-    Iaab$J<::Sb$\"S0;'C>.=$$ => 3 => ?
     // What to write in its place
     Iabc$J2UE :Sb$\"S .-QE\"G \x1en\x14 | \x1ey\x14 '' $$ => y => ?
     // What to write in its place
     Y <:Sthree$\"S0;' HK \x0e\"NSthree$' Y> .=$$ => 5 => ? => one\n\x0ctwo\n\x0cthree\n
     // What to write in its place
     Y <:Stwo$\"S0;' HK \x0e\"NStwo$' Y> -3DI2$HT$$ => 2 => ? => one\n\x0ctwo\n\x0cthree\n
-    // What to write in its place
-    Ixone$1J ::Sone$\"S -3DItwo$' HT$$ => xtwo => ?
     // What to write in its place
     Iabcb$J3UE :Sb$\"S .-QE\"G \x1en\x14 | -DIy$ '' HT$$ => aycb => ?
     // What to write in its place
@@ -49,10 +43,6 @@ pub(super) const EXAMPLES: &str = "
     @\x15A/1= 0; 2=/ MA 3=$$ => 1?SNI => ?
     // What to write in its place
     Iabc$2J .UP :Sx$\"UQPJ' .=$$ => 2 => ?
-    // What to write in its place
-    \x15Acat$ .U9 GA Q9+1J0AUB Q9,Q9+:QAK QB=Z=$$ => 970 => ?
-    // What to write in its place
-    I.$J 0A\"R1=|0A-\x1e.\"E2=''$$ => 2 => ?
     // What to write in its place
     1UA @\x15B/[A 5UA ]A/ MB QA=$$ => 1 => ?
     ";
